@@ -1,2 +1,9 @@
+pub mod Filling
+pub mod LineReading
+pub mod Lines
 pub mod Outside
 pub mod Points
+pub mod Reader
+pub mod Reading
+pub mod Sure
+pub mod Writing

@@ -8,6 +8,9 @@ ghost use Rattle.sy_base.specs.Outside.{HasCause, GivesFile};
 use crate::Text;
 use thiserror::Error;
 
+/// How many bytes a read asks for at once.
+pub(crate) const PIECE: usize = 65_536;
+
 /// A call on an object outside failed. Nothing was taken or appended by it.
 #[derive(Clone, Copy, Debug, PartialEq, Eq, Error)]
 #[error("a call outside failed")]

@@ -1,0 +1,6 @@
+pub mod Advances
+pub mod Appending
+pub mod FileReads
+pub mod LineLemmas
+pub mod ReadLemmas
+pub mod ToldLines

@@ -1,0 +1,23 @@
+use Rattle.std.proofs.Common.{◌≡◌, ◌⊎◌, ◌+◌, ◌-◌, vec_len, IsTrue, false, if◌then◌else◌}
+use Rattle.std.specs.Option.{is_some}
+use Rattle.std.specs.Io.{StartsWith, appended_bytes}
+use Rattle.std.specs.Io.KnownBytes.{Consumes, IsAtEnd}
+use Rattle.sy_base.specs.Lines.{has_newline}
+use Rattle.sy_base.specs.declared.lines.TheConstants.{LINE_LIMIT}
+use Rattle.sy_base.proofs.lines.fill.Given as goal
+
+abbrev pub invariant-reads : goal.invariant-reads
+invariant-reads g l = record {
+  none : has_newline l.held.items ≡ false;
+  starts : StartsWith l.held.items l.initial.held.items;
+  bytes : Consumes (g.S.Source.left l.initial.source) (g.S.Source.left l.source) (appended_bytes l.initial.held.items l.held.items);
+  ended : IsTrue l.ended → IsTrue l.initial.ended ⊎ IsAtEnd (g.S.Source.left l.source);
+  stays : IsTrue l.initial.ended → IsTrue l.ended;
+  idle : IsTrue l.initial.ended → l.held.items ≡ l.initial.held.items;
+  faults : g.S.Source.faults l.source ≡ g.S.Source.faults l.initial.source;
+  told : is_some (g.S.Source.left l.source) ≡ is_some (g.S.Source.left l.initial.source);
+}
+
+-- each read holds more, or tells the end
+abbrev pub decreases-reads : goal.decreases-reads
+decreases-reads g l = (LINE_LIMIT + 1 - vec_len l.held) + (if l.ended then 0 else 1)

@@ -1,0 +1,32 @@
+-- The steps of a reader of lines: reading on until a line is whole, and cutting it off.
+use Rattle.std.specs.Prelude.{◌≡◌, ℕ, ◌^◌, ◌<◌, ◌≤◌, ⊤, false, List, [], length, is_none, None, Some, Ok, Err, Result, take, drop}
+use Rattle.std.specs.declared.option.Option.{Option}
+use Rattle.sy_base.specs.Lines.{has_newline}
+use Rattle.sy_base.specs.LineReading.{IsFirst}
+use Rattle.sy_base.specs.declared.lines.Cut.{Cut}
+use Rattle.sy_base.specs.declared.lines.LineFault.{LineFault}
+use Rattle.sy_base.specs.declared.lines.LineFault.TheVariants.{ReadFault, TooLong, TooManyLines, Memory}
+
+-- the faults that reading on may end with
+abbrev pub IsReadingFault : LineFault → Type 0
+IsReadingFault ReadFault = ⊤
+IsReadingFault TooLong = ⊥
+IsReadingFault TooManyLines = ⊥
+IsReadingFault Memory = ⊤
+
+-- reading on ended with this fault, and no newline is held
+abbrev pub LeavesOff : List ℕ → LineFault → Type 0
+LeavesOff held ReadFault = has_newline held ≡ false
+LeavesOff held TooLong = ⊥
+LeavesOff held TooManyLines = ⊥
+LeavesOff held Memory = ⊤
+
+-- what is cut off the bytes that are held, whose first newline is this one
+abbrev pub CutsHeld : List ℕ → Option ℕ → ℕ → Result (Option Cut) LineFault → Type 0
+CutsHeld held newline given (Ok (Some cut)) =
+    (cut.size ≤ length held) × IsFirst held (drop cut.size held) (is_none newline) given cut.line
+CutsHeld held newline given (Ok None) = held ≡ []
+CutsHeld held newline given (Err ReadFault) = ⊥
+CutsHeld held newline given (Err TooLong) = (4096 < length held) × (has_newline (take 4097 held) ≡ false)
+CutsHeld held newline given (Err TooManyLines) = (0 < length held) × (given ≡ 2 ^ 32)
+CutsHeld held newline given (Err Memory) = ⊤

@@ -1,0 +1,16 @@
+-- What a reader of lines keeps.
+use Rattle.std.specs.Prelude.{ℕ, Bool, true, false, List, []}
+
+pub record Reading : Type 0 where
+  -- the next line may be asked for
+  pub live : Bool
+  -- a read has given it the end of input
+  pub ended : Bool
+  -- the bytes that were read and not yet given
+  pub held : List ℕ
+  -- how many lines it has given
+  pub given : ℕ
+
+-- a new reader
+abbrev pub new_reading : Reading
+new_reading = record { live = true; ended = false; held = []; given = 0 }
