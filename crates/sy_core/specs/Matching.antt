@@ -2,7 +2,7 @@
 -- What happens matches a declared event when it is of that event and every guard is true of its values. A guard whose attribute has no
 -- value there, or whose two values can't be compared, isn't true: = and != compare two values of one basic or enumeration type, and the
 -- other four two numbers or two dates. An internal event matches itself: the same kind of the same target.
-use Rattle.std.specs.Prelude.{ℕ, ℤ, Bool, true, false, not, ◌&&◌, ◌==◌, List, [], ◌∷◌, Option, Some, None, slice_get, int_lt, nat_eq}
+use Rattle.std.specs.Prelude.{ℤ, Bool, false, not, ◌&&◌, ◌==◌, List, Option, Some, None, slice_get, int_lt, nat_eq}
 use Rattle.std.specs.Bool.{beq}
 use Rattle.std.specs.Ordering.{int_eq}
 use Rattle.std.specs.List.{list_all}
@@ -13,9 +13,9 @@ use Rattle.sy_core.specs.declared.value.Value.{Value}
 use Rattle.sy_core.specs.declared.value.Value.TheVariants as V
 use Rattle.sy_core.specs.declared.event.Guard.{Guard}
 use Rattle.sy_core.specs.declared.event.Ev.{Ev}
-use Rattle.sy_core.specs.declared.event.Ev.TheVariants.{Outer, Inner}
+use Rattle.sy_core.specs.declared.event.Ev.TheVariants.{Outer}
 use Rattle.sy_core.specs.declared.happening.What.{What}
-use Rattle.sy_core.specs.declared.happening.What.TheVariants.{Event, Exert}
+use Rattle.sy_core.specs.declared.happening.What.TheVariants.{Event}
 
 -- two whole numbers, or two dates, under a comparison
 abbrev pub numbers_compare : Cmp → ℤ → ℤ → Bool

@@ -1,4 +1,4 @@
-use Rattle.std.proofs.Common.{rules, ◌≡◌}
+use Rattle.std.proofs.Common.{rules}
 use Rattle.sy_core.proofs.Equal.{happening_ties}
 use Rattle.sy_core.proofs.happening.Happening.order.Goals as goal
 

@@ -1,4 +1,4 @@
-use Rattle.std.proofs.Common.{rules, ◌≡◌}
+use Rattle.std.proofs.Common.{rules}
 use Rattle.sy_core.proofs.Equal.{what_Decides}
 use Rattle.sy_core.proofs.happening.What.is_same.Goals as goal
 
