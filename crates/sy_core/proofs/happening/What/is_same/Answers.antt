@@ -1,0 +1,6 @@
+use Rattle.std.proofs.Common.{rules}
+use Rattle.sy_core.proofs.Equal.{what_Decides}
+use Rattle.sy_core.proofs.happening.What.is_same.Goals as goal
+
+pub returns : goal.returns
+returns c = let d = what_Decides c.args.self.now c.args.other.now in search rules

@@ -1,0 +1,30 @@
+//! A deed, which is a contract with its parameters bound, and what happens under it. The rules by
+//! which states follow from happenings are definitions in `specs/`.
+#![tactic(auto)]
+
+mod date_term;
+mod deed;
+mod event;
+mod happening;
+mod kind;
+mod matching;
+mod position;
+mod proposition;
+mod state;
+mod table;
+#[cfg(test)]
+mod tests;
+mod value;
+
+pub use date_term::{Base, DateTerm};
+pub use deed::{AttrDecl, Choices, Deed, EventDecl};
+pub use event::{Ev, Guard};
+pub use happening::{Happening, What};
+pub use kind::{Kind, Target};
+pub use matching::matches;
+pub use position::{Act, Form, Goal, Position, Verb};
+pub use proposition::{Prop, Situation};
+pub use sqlite_items::{Boxed, Items};
+pub use state::StateOf;
+pub use table::{Mark, Table, Verdict};
+pub use value::{Cmp, Value, ValueKind};
