@@ -3,9 +3,9 @@ ghost use Rattle.jiff_core.specs.Calendar.{days_from_civil};
 ghost use Rattle.jiff_core.specs.Date.{epoch_day};
 ghost use Rattle.sy_base.specs.Dates as dates;
 ghost use Rattle.sy_base.specs.Dates.{is_day, is_time, is_year, units_of_day, units_at};
-ghost use Rattle.sy_base.specs.Points.{minutes_of_unit};
 ghost use Rattle.sy_time.specs.Date.{date_of, point_or_fault};
 
+use crate::unit::minutes_of_unit;
 use crate::written::{WrittenDate, read_written};
 use jiff::civil::Date;
 use sy_base::{Point, TimeUnit};
@@ -26,16 +26,6 @@ pub enum DateFault {
     /// The year isn't from 1900 to 2999.
     #[error("out of range")]
     OutOfRange,
-}
-
-fn minutes_of_unit(unit: TimeUnit) -> u16
-    ensures { result ≡ minutes_of_unit unit }
-{
-    match unit {
-        TimeUnit::Minute => 1,
-        TimeUnit::Hour => 60,
-        TimeUnit::Day => 1440,
-    }
 }
 
 fn is_finer_form(form: TimeUnit, unit: TimeUnit) -> bool

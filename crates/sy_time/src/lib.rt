@@ -3,8 +3,11 @@
 
 mod date;
 mod digits;
+mod duration;
+mod unit;
 mod write;
 mod written;
 
 pub use date::{DateFault, read_date};
+pub use duration::add;
 pub use write::write_date;

@@ -1,4 +1,4 @@
-ghost use Rattle.std.specs.Prelude.{◌≡◌, ℕ, ◌+◌, ◌*◌, ◌<◌, ◌≤◌, pos, neg_ℤ, ◌+ℤ◌, ◌*ℤ◌, ◌≤ℤ◌, take, Some, Ok};
+ghost use Rattle.std.specs.Prelude.{◌≡◌, ℕ, ◌+◌, ◌*◌, ◌<◌, ◌≤◌, pos, neg_ℤ, ◌+ℤ◌, ◌*ℤ◌, ◌≤ℤ◌, take, drop, Some, Ok};
 ghost use Rattle.jiff_core.specs.Date.{epoch_day};
 ghost use Rattle.sy_base.specs.Dates.{written_date, text_length, time_in};
 ghost use Rattle.sy_base.specs.Points.{minutes_of_unit, IsDated};
@@ -60,15 +60,15 @@ fn year_number(date: Date) -> u16
     date.year as u16
 }
 
-/// Writes a date and a time in the form of the unit Minute. Cut after the day or the hour, it is
-/// a text in the form of that unit.
-fn write_minute(year: u16, month: u8, day: u8, hour: u8, minute: u8, buf: &mut [u8; 16])
+/// A date and a time in the form of the unit Minute. Cut after the day or the hour, it is a text in
+/// the form of that unit.
+fn minute_text(year: u16, month: u8, day: u8, hour: u8, minute: u8) -> [u8; 16]
     requires year { year < 10000 }
     requires month { month < 100 }
     requires day { day < 100 }
     requires hour { hour < 100 }
     requires minute { minute < 100 }
-    ensures { (unit : TimeUnit) → written_date (take (text_length unit) buf.new)
+    ensures { (unit : TimeUnit) → written_date (take (text_length unit) result)
         ≡ Some (record { year = year; month = month; day = day; time = time_in unit hour minute }) }
 {
     let (y1, y2, y3, y4) = write_four(year);
@@ -76,13 +76,14 @@ fn write_minute(year: u16, month: u8, day: u8, hour: u8, minute: u8, buf: &mut [
     let (d1, d2) = write_two(day);
     let (h1, h2) = write_two(hour);
     let (n1, n2) = write_two(minute);
-    *buf = [
+    [
         y1, y2, y3, y4, b'-', m1, m2, b'-', d1, d2, b'T', h1, h2, b':', n1, n2,
-    ];
+    ]
 }
 
 fn text_length(unit: TimeUnit) -> usize
-    ensures { result ≡ text_length unit }
+    ensures value { result ≡ text_length unit }
+    ensures bound { result ≤ 16 }
 {
     match unit {
         TimeUnit::Minute => 16,
@@ -91,23 +92,34 @@ fn text_length(unit: TimeUnit) -> usize
     }
 }
 
+/// Copies that many bytes, from the first on.
+fn copy_front(text: &[u8; 16], length: usize, buf: &mut [u8; 16])
+    requires { length ≤ 16 }
+    ensures front { take length buf.new ≡ take length text.now }
+    ensures rest { drop length buf.new ≡ drop length buf.old }
+{
+    buf[..length].copy_from_slice(&text[..length]);
+}
+
 /// Writes the date of a point in the unit's own form at the front of `buf`, and says how many bytes
-/// that is: 10 for Day, 13 for Hour, 16 for Minute. What stands after them in `buf` is not told.
+/// that is: 10 for Day, 13 for Hour, 16 for Minute. The rest of `buf` stays as it was.
 pub fn write_date(unit: TimeUnit, point: Point, buf: &mut [u8; 16]) -> usize
     requires { IsDated unit point }
     // In one unit only one text of this length is read as the point.
     ensures length { result ≡ text_length unit }
     ensures text { date_of unit (take result buf.new) ≡ Ok point }
+    ensures rest { drop result buf.new ≡ drop result buf.old }
 {
     let (day, minute) = day_and_minute(unit, point);
     let date = date_of_day(day);
-    write_minute(
+    let text = minute_text(
         year_number(date),
         date.month,
         date.day,
         (minute / 60) as u8,
         (minute % 60) as u8,
-        buf,
     );
-    text_length(unit)
+    let length = text_length(unit);
+    copy_front(&text, length, buf);
+    length
 }
