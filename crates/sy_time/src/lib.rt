@@ -4,6 +4,8 @@
 mod date;
 mod digits;
 mod duration;
+#[cfg(test)]
+mod tests;
 mod unit;
 mod write;
 mod written;
