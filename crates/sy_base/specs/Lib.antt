@@ -1,3 +1,4 @@
+pub mod Dates
 pub mod Filling
 pub mod LineReading
 pub mod Lines

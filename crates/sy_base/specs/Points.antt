@@ -51,3 +51,14 @@ greatest_count Weeks = 20871
 abbrev pub added : TimeUnit → ℤ → Duration → ℤ
 added unit point duration =
     point +ℤ pos (duration.count * (minutes_of_measure duration.measure / minutes_of_unit unit))
+
+-- the last point before 5800-01-01: no sum of the last date and seven durations is later
+abbrev pub last_before_5800 : TimeUnit → ℤ
+last_before_5800 Minute = pos 2014385759
+last_before_5800 Hour = pos 33573095
+last_before_5800 Day = pos 1398878
+
+-- the point lies from 1900-01-01 to the end of 5799, so that one more duration may be added
+pub record IsAddable (unit : TimeUnit) (point : ℤ) : Type 0 where
+  pub not_before : least_point unit ≤ℤ point
+  pub not_after : point ≤ℤ last_before_5800 unit

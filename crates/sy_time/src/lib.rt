@@ -1,0 +1,15 @@
+//! Dates: their texts and their points.
+#![tactic(auto)]
+
+mod date;
+mod digits;
+mod duration;
+#[cfg(test)]
+mod tests;
+mod unit;
+mod write;
+mod written;
+
+pub use date::{DateFault, read_date};
+pub use duration::add;
+pub use write::write_date;
