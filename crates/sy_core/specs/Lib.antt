@@ -1,1 +1,15 @@
 pub mod Matching
+pub mod Moments
+pub mod States
+pub mod Propositions
+pub mod Mentions
+pub mod Conditions
+pub mod Rounds
+pub mod Chronicle
+pub mod Orders
+pub mod Prerequisites
+pub mod Dependence
+pub mod Tables
+pub mod Wakes
+pub mod Narrative
+pub mod Soundness

@@ -1,0 +1,208 @@
+-- The condition of each internal event at a point: the event happens there exactly where it is true.
+-- It reads the states at the start of the point, the happenings up to the point, the internal events before it and those assumed at it.
+use Rattle.std.specs.Prelude.{ℕ, ◌+◌, Bool, true, false, not, ◌&&◌, ◌||◌, ◌==◌, List, [], ◌∷◌, ◌++◌, Option, Some, None, slice_get, length}
+use Rattle.std.specs.List.{list_any}
+use Rattle.sy_base.specs.declared.time.TimeUnit.{TimeUnit}
+use Rattle.sy_core.specs.declared.kind.Kind.{Kind}
+use Rattle.sy_core.specs.declared.kind.Kind.TheVariants.{Exerted, Triggered, Activated, Resumed, Suspended, Fulfilled, Violated, Expired, Discharged, Terminated, Completed}
+use Rattle.sy_core.specs.declared.kind.Target.{Target}
+use Rattle.sy_core.specs.declared.kind.Target.TheVariants as T
+use Rattle.sy_core.specs.declared.event.Ev.TheVariants.{Inner}
+use Rattle.sy_core.specs.declared.state.StateOf.{StateOf}
+use Rattle.sy_core.specs.declared.state.StateOf.TheVariants as S
+use Rattle.sy_core.specs.declared.table.Verdict.{Verdict}
+use Rattle.sy_core.specs.declared.proposition.Prop.{Prop}
+use Rattle.sy_core.specs.declared.position.Form.{Form}
+use Rattle.sy_core.specs.declared.position.Form.TheVariants.{Obligation, Surviving, Power}
+use Rattle.sy_core.specs.declared.position.Verb.{Verb}
+use Rattle.sy_core.specs.declared.position.Verb.TheVariants as Verbs
+use Rattle.sy_core.specs.declared.position.Goal.{Goal}
+use Rattle.sy_core.specs.declared.position.Goal.TheVariants as G
+use Rattle.sy_core.specs.declared.position.Position.{Position}
+use Rattle.sy_core.specs.declared.deed.Deed.{Deed}
+use Rattle.sy_core.specs.Moments.{Moment}
+use Rattle.sy_core.specs.States.{same_state, kinds_of, contract_kinds, state_after}
+use Rattle.sy_core.specs.Propositions.{verdict_in, is_true, is_false}
+use Rattle.sy_core.specs.Mentions.{Event, events_at, same_target, names_of, has_holds, is_violation_of}
+
+-- verbs by number, to compare them
+abbrev pub verb_number : Verb → ℕ
+verb_number Verbs.Suspends = 0
+verb_number Verbs.Resumes = 1
+verb_number Verbs.Discharges = 2
+verb_number Verbs.Terminates = 3
+verb_number Verbs.Triggers = 4
+
+-- the goal is the act that does this to that target
+abbrev pub is_act : Verb → Target → Goal → Bool
+is_act verb target (G.Act act) = (verb_number act.verb == verb_number verb) && same_target act.target target
+is_act verb target (G.Duty consequent) = false
+
+-- the goal is an act on the contract
+abbrev pub acts_on_contract : Goal → Bool
+acts_on_contract (G.Act act) = same_target act.target T.Contract
+acts_on_contract (G.Duty consequent) = false
+
+-- the form is that of a power
+abbrev pub is_power : Form → Bool
+is_power Power = true
+is_power _ = false
+
+-- the form is that of an obligation, surviving or not
+abbrev pub is_obligation : Form → Bool
+is_obligation Power = false
+is_obligation _ = true
+
+-- the form is that of a surviving obligation
+abbrev pub survives : Form → Bool
+survives Surviving = true
+survives _ = false
+
+-- the form is that of an obligation that doesn't survive: these the contract's completion waits for
+abbrev pub is_awaited : Form → Bool
+is_awaited Obligation = true
+is_awaited _ = false
+
+-- a remedy of an obligation is an obligation whose trigger names its violation, anywhere in it
+abbrev pub is_remedy : Target → Position → Bool
+is_remedy broken p = is_obligation p.form && list_any (is_violation_of broken) (names_of p.trigger)
+
+-- an obligation in this state is settled: not begun, kept, discharged, or broken and remedied
+abbrev pub is_settled : StateOf → Bool → Bool
+is_settled S.Null remedied = true
+is_settled S.Fulfillment remedied = true
+is_settled S.Discharge remedied = true
+is_settled S.Violation remedied = remedied
+is_settled _ remedied = false
+
+-- the verdict of a position's consequent passes a test; an act has none
+abbrev pub duty_is : (Verdict → Bool) → TimeUnit → Moment → List Moment → Goal → Bool
+duty_is test unit now moments (G.Duty consequent) = test (verdict_in unit now moments consequent)
+duty_is test unit now moments (G.Act act) = false
+
+-- by the moment now alone
+module _ (now : Moment) where
+  -- an internal event happens at this point
+  abbrev pub happened : Kind → Target → Bool
+  happened kind target = now.seen (Inner kind target)
+
+  -- the target was in a state at the start of this point
+  abbrev pub was : Target → StateOf → Bool
+  was target state = same_state (now.state target) state
+
+  -- some power from number i on, whose act does this to that target, is exerted
+  abbrev pub exerted_from : ℕ → Verb → Target → List Position → Bool
+  exerted_from i verb target [] = false
+  exerted_from i verb target (p ∷ ps) =
+      (is_act verb target p.goal && happened Exerted (T.Position i)) || exerted_from (i + 1) verb target ps
+
+  -- the contract is in effect, or the form doesn't heed it
+  abbrev pub live : Form → Bool
+  live form = survives form || was T.Contract S.InEffect
+
+  -- the position was created and hasn't come to its end, or is created here
+  abbrev pub alive : Target → Bool
+  alive x = was x S.Create || was x S.InEffect || was x S.Suspension || happened Triggered x
+
+  -- the position was in effect, or comes into effect here
+  abbrev pub in_force : Target → Bool
+  in_force x = was x S.InEffect || happened Activated x || happened Resumed x
+
+  -- the position was created and waits for its antecedent, or is created here
+  abbrev pub awaits : Target → Bool
+  awaits x = was x S.Create || happened Triggered x
+
+  -- a duty is in force, and nothing here suspends or ends it
+  abbrev pub stays_due : Target → Form → Bool
+  stays_due x form = live form && in_force x && not (happened Suspended x) && not (happened Discharged x) && not (happened Terminated x)
+
+  -- the state of position number i after this point
+  abbrev pub next_state : ℕ → Position → StateOf
+  next_state i p = state_after p.form (λ kind. happened kind (T.Position i)) (now.state (T.Position i))
+
+  -- some remedy from number i on is kept after this point
+  abbrev pub remedied_from : Target → ℕ → List Position → Bool
+  remedied_from broken i [] = false
+  remedied_from broken i (p ∷ ps) =
+      (is_remedy broken p && same_state (next_state i p) S.Fulfillment) || remedied_from broken (i + 1) ps
+
+  -- each awaited obligation from number i on is settled after this point; all has every position
+  abbrev pub all_settled_from : List Position → ℕ → List Position → Bool
+  all_settled_from all i [] = true
+  all_settled_from all i (p ∷ ps) =
+      (not (is_awaited p.form) || is_settled (next_state i p) (remedied_from (T.Position i) 0 all)) && all_settled_from all (i + 1) ps
+
+  -- some awaited obligation from number i on has begun after this point
+  abbrev pub any_begun_from : ℕ → List Position → Bool
+  any_begun_from i [] = false
+  any_begun_from i (p ∷ ps) = (is_awaited p.form && not (same_state (next_state i p) S.Null)) || any_begun_from (i + 1) ps
+
+module _ (deed : Deed) (now : Moment) where
+  -- some power that does this to that target is exerted at this point
+  abbrev pub by : Verb → Target → Bool
+  by verb target = exerted_from now 0 verb target deed.positions
+
+  -- every awaited obligation is settled after this point, and some awaited obligation has begun
+  abbrev pub is_complete : Bool
+  is_complete = all_settled_from now deed.positions 0 deed.positions && any_begun_from now 0 deed.positions
+
+  -- the contract's events, one equation a row; it has no others
+  abbrev pub contract_fires : Kind → Bool
+  contract_fires Resumed = was now T.Contract S.Suspension && by Verbs.Resumes T.Contract
+  contract_fires Suspended = was now T.Contract S.InEffect && by Verbs.Suspends T.Contract
+  contract_fires Terminated = by Verbs.Terminates T.Contract
+  contract_fires Completed =
+      was now T.Contract S.InEffect && not (happened now Suspended T.Contract) && not (happened now Terminated T.Contract) && is_complete
+  contract_fires _ = false
+
+  -- the events of position number i, one equation a row; moments are all those up to now
+  module _ (moments : List Moment) (i : ℕ) (p : Position) where
+    abbrev pub position_fires : Kind → Bool
+    position_fires Exerted =
+        is_power p.form && now.asked i && was now (T.Position i) S.InEffect
+        && (was now T.Contract S.InEffect || (was now T.Contract S.Suspension && acts_on_contract p.goal))
+    position_fires Triggered =
+        live now p.form && was now (T.Position i) S.Null
+        && (is_true (verdict_in deed.unit now moments p.trigger) || by Verbs.Triggers (T.Position i))
+    position_fires Activated =
+        live now p.form && awaits now (T.Position i) && is_true (verdict_in deed.unit now moments p.antecedent)
+    position_fires Resumed = was now (T.Position i) S.Suspension && by Verbs.Resumes (T.Position i)
+    position_fires Suspended =
+        in_force now (T.Position i) && by Verbs.Suspends (T.Position i) && not (happened now Exerted (T.Position i))
+    position_fires Fulfilled =
+        is_obligation p.form && stays_due now (T.Position i) p.form && duty_is is_true deed.unit now moments p.goal
+    position_fires Violated =
+        is_obligation p.form && stays_due now (T.Position i) p.form && duty_is is_false deed.unit now moments p.goal
+    position_fires Expired =
+        live now p.form && awaits now (T.Position i)
+        && not (has_holds p.antecedent) && is_false (verdict_in deed.unit now moments p.antecedent)
+    position_fires Discharged = is_obligation p.form && alive now (T.Position i) && by Verbs.Discharges (T.Position i)
+    position_fires Terminated =
+        alive now (T.Position i)
+        && (by Verbs.Terminates (T.Position i) || (not (survives p.form) && by Verbs.Terminates T.Contract))
+        && not (happened now Exerted (T.Position i))
+    position_fires Completed = false
+
+-- nothing happens to a position that isn't there
+abbrev pub fires_of : Deed → Moment → List Moment → ℕ → Option Position → Kind → Bool
+fires_of deed now moments i None kind = false
+fires_of deed now moments i (Some p) kind = position_fires deed now moments i p kind
+
+-- the condition of an internal event now, where the moments are all those up to now
+abbrev pub fires : Deed → Moment → List Moment → Kind → Target → Bool
+fires deed now moments kind T.Contract = contract_fires deed now kind
+fires deed now moments kind (T.Position i) = fires_of deed now moments i (slice_get deed.positions i) kind
+
+-- how many internal events the contract and some positions have
+abbrev pub count_events : List Position → ℕ
+count_events [] = length contract_kinds
+count_events (p ∷ ps) = length (kinds_of p.form) + count_events ps
+
+-- the internal events of the contract and of the positions from number i on
+abbrev pub events_from : ℕ → List Position → List Event
+events_from i [] = events_at contract_kinds T.Contract
+events_from i (p ∷ ps) = events_at (kinds_of p.form) (T.Position i) ++ events_from (i + 1) ps
+
+-- the internal events of a deed
+abbrev pub events_of : Deed → List Event
+events_of deed = events_from 0 deed.positions
