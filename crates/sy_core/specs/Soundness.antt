@@ -1,18 +1,17 @@
 -- When a deed is sound: its numbers name things that are there, and its dates, durations, values, acts and goals are of their kinds.
 -- Later work widens this by: distinct names, the limits on positions, events and atoms, fewer than 2^32 propositions and date terms and
 -- items in every other list, and that order is the one of its nodes and has them all.
-use Rattle.std.specs.Prelude.{ℕ, ◌^◌, ◌<◌, Bool, true, false, not, ◌&&◌, ◌||◌, ◌==◌, List, [], ◌∷◌, Option, Some, None, slice_get, length, nat_le, IsTrue}
-use Rattle.std.specs.List.{list_any, list_all}
+use Rattle.std.specs.Prelude.{◌^◌, ◌<◌, Bool, true, false, not, ◌&&◌, List, Option, Some, None, slice_get, length, nat_le, IsTrue}
+use Rattle.std.specs.List.{list_all}
 use Rattle.sy_base.specs.declared.time.TimeUnit.{TimeUnit}
 use Rattle.sy_base.specs.declared.time.Duration.{Duration}
 use Rattle.sy_base.specs.Points.{IsDated, is_finer, greatest_count}
 use Rattle.sy_core.specs.declared.kind.Kind.{Kind}
-use Rattle.sy_core.specs.declared.kind.Kind.TheVariants.{Exerted, Triggered, Activated, Resumed, Suspended, Fulfilled, Violated, Expired, Discharged, Terminated, Completed}
+use Rattle.sy_core.specs.declared.kind.Kind.TheVariants.{Exerted, Resumed, Suspended, Fulfilled, Violated, Discharged, Terminated, Completed}
 use Rattle.sy_core.specs.declared.kind.Target.{Target}
 use Rattle.sy_core.specs.declared.kind.Target.TheVariants as T
 use Rattle.sy_core.specs.declared.state.StateOf.{StateOf}
 use Rattle.sy_core.specs.declared.state.StateOf.TheVariants as S
-use Rattle.sy_core.specs.declared.value.ValueKind.{ValueKind}
 use Rattle.sy_core.specs.declared.event.Guard.{Guard}
 use Rattle.sy_core.specs.declared.event.Ev.{Ev}
 use Rattle.sy_core.specs.declared.event.Ev.TheVariants.{Outer, Inner}
@@ -25,17 +24,14 @@ use Rattle.sy_core.specs.declared.proposition.Prop.TheOpen.{Prop-F}
 use Rattle.sy_core.specs.declared.proposition.Prop.TheOpen as P
 use Rattle.sy_core.specs.declared.proposition.Prop.TheFolds.{fold-Prop}
 use Rattle.sy_core.specs.declared.position.Form.{Form}
-use Rattle.sy_core.specs.declared.position.Form.TheVariants.{Obligation, Surviving, Power}
 use Rattle.sy_core.specs.declared.position.Verb.{Verb}
 use Rattle.sy_core.specs.declared.position.Verb.TheVariants as Verbs
-use Rattle.sy_core.specs.declared.position.Act.{Act}
 use Rattle.sy_core.specs.declared.position.Goal.{Goal}
 use Rattle.sy_core.specs.declared.position.Goal.TheVariants as G
 use Rattle.sy_core.specs.declared.position.Position.{Position}
 use Rattle.sy_core.specs.declared.deed.AttrDecl.{AttrDecl}
 use Rattle.sy_core.specs.declared.deed.EventDecl.{EventDecl}
 use Rattle.sy_core.specs.declared.deed.Deed.{Deed}
-use Rattle.sy_core.specs.States.{same_state, kinds_of, contract_kinds}
 use Rattle.sy_core.specs.Conditions.{is_power, is_obligation}
 use Rattle.sy_core.specs.Narrative.{is_dated, is_value_of}
 
