@@ -1,1 +1,4 @@
 pub mod Equal
+pub mod OrderLaw
+pub mod DependenceLaw
+pub mod RoundsLaw

@@ -11,7 +11,6 @@ use Rattle.sy_core.specs.declared.event.Ev.TheVariants.{Inner}
 use Rattle.sy_core.specs.declared.state.StateOf.{StateOf}
 use Rattle.sy_core.specs.declared.state.StateOf.TheVariants as S
 use Rattle.sy_core.specs.declared.table.Verdict.{Verdict}
-use Rattle.sy_core.specs.declared.proposition.Prop.{Prop}
 use Rattle.sy_core.specs.declared.position.Form.{Form}
 use Rattle.sy_core.specs.declared.position.Form.TheVariants.{Obligation, Surviving, Power}
 use Rattle.sy_core.specs.declared.position.Verb.{Verb}

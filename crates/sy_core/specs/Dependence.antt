@@ -1,6 +1,6 @@
 -- Which internal events of the same point a condition looks at, and when a list has a deed's events in such an order that each looks only
 -- at events before it.
-use Rattle.std.specs.Prelude.{◌≡◌, ℕ, ◌+◌, Bool, false, List, [], ◌∷◌, ◌++◌, Option, Some, None, slice_get, length, ◌⊎◌, if◌then◌else◌}
+use Rattle.std.specs.Prelude.{◌≡◌, ℕ, ◌+◌, false, List, [], ◌∷◌, ◌++◌, Option, Some, None, slice_get, length, ◌⊎◌, if◌then◌else◌}
 use Rattle.sy_core.specs.declared.kind.Kind.{Kind}
 use Rattle.sy_core.specs.declared.kind.Kind.TheVariants.{Exerted, Triggered, Activated, Resumed, Suspended, Fulfilled, Violated, Expired, Discharged, Terminated, Completed}
 use Rattle.sy_core.specs.declared.kind.Target.{Target}

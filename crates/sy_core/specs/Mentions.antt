@@ -1,5 +1,5 @@
 -- What stands in a proposition: the internal events that it names, its date terms, and whether it asks for a state now.
-use Rattle.std.specs.Prelude.{ℕ, Bool, true, false, ◌&&◌, ◌||◌, ◌==◌, List, [], ◌∷◌, ◌++◌, map}
+use Rattle.std.specs.Prelude.{Bool, true, false, ◌&&◌, ◌||◌, ◌==◌, List, [], ◌∷◌, ◌++◌, map}
 use Rattle.sy_core.specs.declared.kind.Kind.{Kind}
 use Rattle.sy_core.specs.declared.kind.Kind.TheVariants.{Violated}
 use Rattle.sy_core.specs.declared.kind.Target.{Target}

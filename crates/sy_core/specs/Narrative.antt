@@ -2,7 +2,7 @@
 -- What happens is of the deed when it is of one of its events, with one value of its kind and range for each attribute in their order, or
 -- when it exerts one of its powers. A narrative has such happenings, from start to the unit's last point. Of a narrative, every other
 -- definition asks only whether a happening is in it.
-use Rattle.std.specs.Prelude.{ℕ, ◌*◌, ◌^◌, ◌<◌, ℤ, pos, neg_ℤ, ◌≤ℤ◌, Bool, true, false, ◌&&◌, ◌==◌, List, [], ◌∷◌, Option, Some, None, slice_get, length, nat_lt, int_le, IsTrue, ◌≡◌}
+use Rattle.std.specs.Prelude.{ℕ, ◌^◌, ℤ, pos, neg_ℤ, ◌≤ℤ◌, Bool, true, false, ◌&&◌, ◌==◌, List, [], ◌∷◌, Option, Some, None, slice_get, length, nat_lt, int_le, IsTrue}
 use Rattle.sy_base.specs.declared.time.TimeUnit.{TimeUnit}
 use Rattle.sy_base.specs.Points.{least_point, greatest_point}
 use Rattle.sy_core.specs.declared.value.Value.{Value}

@@ -1,7 +1,7 @@
 -- The nodes of a deed, what each needs, and the order in which a point is evaluated.
 -- A node stands for the internal events of one sort of one position, or for those of the contract. They are numbered in the order of the
 -- positions: for each power Exert, Trig, Act and End, for each obligation Trig, Act and End; last Contract.
-use Rattle.std.specs.Prelude.{ℕ, ◌+◌, Bool, true, false, not, ◌&&◌, ◌||◌, ◌==◌, List, [], ◌∷◌, ◌++◌, map, length, Option, Some, None, slice_get, if◌then◌else◌}
+use Rattle.std.specs.Prelude.{ℕ, ◌+◌, Bool, true, false, ◌==◌, List, [], ◌∷◌, ◌++◌, map, length, Option, Some, None, slice_get, if◌then◌else◌}
 use Rattle.std.specs.List.{position_or_len, flat_map}
 use Rattle.sy_core.specs.declared.kind.Kind.{Kind}
 use Rattle.sy_core.specs.declared.kind.Kind.TheVariants.{Exerted, Triggered, Activated, Resumed, Suspended, Fulfilled, Violated, Expired, Discharged, Terminated, Completed}
@@ -14,7 +14,7 @@ use Rattle.sy_core.specs.declared.position.Verb.TheVariants as Verbs
 use Rattle.sy_core.specs.declared.position.Position.{Position}
 use Rattle.sy_core.specs.declared.deed.Deed.{Deed}
 use Rattle.sy_core.specs.Mentions.{Event, names_of, names_of_duty}
-use Rattle.sy_core.specs.Conditions.{is_act, acts_on_contract, is_power, survives, is_awaited, is_remedy}
+use Rattle.sy_core.specs.Conditions.{is_act, acts_on_contract, survives, is_awaited, is_remedy}
 use Rattle.sy_core.specs.Orders.{order}
 
 -- the exertion, the creation, the coming into effect and the end of position number i, and the contract

@@ -1,18 +1,19 @@
 -- When a deed is sound: its numbers name things that are there, and its dates, durations, values, acts and goals are of their kinds.
 -- Later work widens this by: distinct names, the limits on positions, events and atoms, fewer than 2^32 propositions and date terms and
 -- items in every other list, and that order is the one of its nodes and has them all.
-use Rattle.std.specs.Prelude.{ℕ, ◌^◌, ◌<◌, Bool, true, false, not, ◌&&◌, ◌||◌, ◌==◌, List, [], ◌∷◌, Option, Some, None, slice_get, length, nat_le, IsTrue}
-use Rattle.std.specs.List.{list_any, list_all}
+use Rattle.std.specs.Prelude.{◌^◌, ◌<◌, Bool, true, false, not, ◌&&◌, List, Option, Some, None, slice_get, length, nat_le, IsTrue, nat_lt}
+use Rattle.std.specs.List.{list_all}
 use Rattle.sy_base.specs.declared.time.TimeUnit.{TimeUnit}
 use Rattle.sy_base.specs.declared.time.Duration.{Duration}
 use Rattle.sy_base.specs.Points.{IsDated, is_finer, greatest_count}
 use Rattle.sy_core.specs.declared.kind.Kind.{Kind}
-use Rattle.sy_core.specs.declared.kind.Kind.TheVariants.{Exerted, Triggered, Activated, Resumed, Suspended, Fulfilled, Violated, Expired, Discharged, Terminated, Completed}
+use Rattle.sy_core.specs.declared.kind.Kind.TheVariants.{Exerted, Resumed, Suspended, Fulfilled, Violated, Discharged, Terminated, Completed}
 use Rattle.sy_core.specs.declared.kind.Target.{Target}
 use Rattle.sy_core.specs.declared.kind.Target.TheVariants as T
 use Rattle.sy_core.specs.declared.state.StateOf.{StateOf}
 use Rattle.sy_core.specs.declared.state.StateOf.TheVariants as S
 use Rattle.sy_core.specs.declared.value.ValueKind.{ValueKind}
+use Rattle.sy_core.specs.declared.value.ValueKind.TheVariants as K
 use Rattle.sy_core.specs.declared.event.Guard.{Guard}
 use Rattle.sy_core.specs.declared.event.Ev.{Ev}
 use Rattle.sy_core.specs.declared.event.Ev.TheVariants.{Outer, Inner}
@@ -25,17 +26,14 @@ use Rattle.sy_core.specs.declared.proposition.Prop.TheOpen.{Prop-F}
 use Rattle.sy_core.specs.declared.proposition.Prop.TheOpen as P
 use Rattle.sy_core.specs.declared.proposition.Prop.TheFolds.{fold-Prop}
 use Rattle.sy_core.specs.declared.position.Form.{Form}
-use Rattle.sy_core.specs.declared.position.Form.TheVariants.{Obligation, Surviving, Power}
 use Rattle.sy_core.specs.declared.position.Verb.{Verb}
 use Rattle.sy_core.specs.declared.position.Verb.TheVariants as Verbs
-use Rattle.sy_core.specs.declared.position.Act.{Act}
 use Rattle.sy_core.specs.declared.position.Goal.{Goal}
 use Rattle.sy_core.specs.declared.position.Goal.TheVariants as G
 use Rattle.sy_core.specs.declared.position.Position.{Position}
 use Rattle.sy_core.specs.declared.deed.AttrDecl.{AttrDecl}
 use Rattle.sy_core.specs.declared.deed.EventDecl.{EventDecl}
 use Rattle.sy_core.specs.declared.deed.Deed.{Deed}
-use Rattle.sy_core.specs.States.{same_state, kinds_of, contract_kinds}
 use Rattle.sy_core.specs.Conditions.{is_power, is_obligation}
 use Rattle.sy_core.specs.Narrative.{is_dated, is_value_of}
 
@@ -97,6 +95,15 @@ form_passes test (Some p) = test p.form
 -- a duration's measure isn't finer than the unit, and its count is within its limit
 abbrev pub is_duration_of : TimeUnit → Duration → Bool
 is_duration_of unit duration = not (is_finer duration.measure unit) && nat_le duration.count (greatest_count duration.measure)
+
+-- the enumeration that a kind of value names is there
+abbrev pub is_sound_kind : Deed → ValueKind → Bool
+is_sound_kind deed (K.Choice e) = nat_lt e (length deed.choices)
+is_sound_kind deed _ = true
+
+-- the kind of each attribute of an event is there
+abbrev pub is_sound_decl : Deed → EventDecl → Bool
+is_sound_decl deed event = list_all (λ attr. is_sound_kind deed attr.kind) event.attrs
 
 -- a guard's attribute is there, and its value is of the attribute's kind
 abbrev pub is_guard_at : Deed → Guard → Option AttrDecl → Bool
@@ -174,5 +181,6 @@ pub record IsSound (deed : Deed) : Type 0 where
   pub few_events : length deed.events < 2 ^ 32
   pub few_posts : length deed.posts < 2 ^ 32
   pub start_dated : IsDated deed.unit deed.start
+  pub events_sound : IsTrue (list_all (is_sound_decl deed) deed.events)
   pub positions_sound : IsTrue (list_all (is_sound_position deed) deed.positions)
   pub posts_sound : IsTrue (list_all (is_sound_prop deed) deed.posts)

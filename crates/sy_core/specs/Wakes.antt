@@ -1,19 +1,17 @@
 -- The points at which anything can happen or change.
 -- They are start, the points of the happenings, the points on which the value of a date term falls, and the point after each at which
 -- something internal happened.
-use Rattle.std.specs.Prelude.{ℕ, zero, suc, ℤ, pos, ◌+ℤ◌, ◌-ℤ◌, nat_abs, ◌+◌, Bool, true, false, not, ◌&&◌, ◌||◌, List, [], ◌∷◌, ◌++◌, map, Option, Some, None, int_lt, IsTrue}
+use Rattle.std.specs.Prelude.{ℕ, zero, suc, ℤ, pos, ◌+ℤ◌, ◌-ℤ◌, nat_abs, Bool, true, false, not, ◌&&◌, ◌||◌, List, ◌++◌, Option, Some, None, int_lt}
 use Rattle.std.specs.Ordering.{int_eq}
 use Rattle.std.specs.List.{list_any, flat_map}
 use Rattle.sy_base.specs.declared.time.TimeUnit.{TimeUnit}
-use Rattle.sy_core.specs.declared.kind.Target.TheVariants as T
 use Rattle.sy_core.specs.declared.event.Ev.TheVariants.{Inner}
 use Rattle.sy_core.specs.declared.date_term.DateTerm.{DateTerm}
 use Rattle.sy_core.specs.declared.position.Position.{Position}
 use Rattle.sy_core.specs.declared.deed.Deed.{Deed}
 use Rattle.sy_core.specs.declared.happening.Happening.{Happening}
 use Rattle.sy_core.specs.Moments.{Moment, date_value}
-use Rattle.sy_core.specs.States.{kinds_of, contract_kinds}
-use Rattle.sy_core.specs.Mentions.{Event, dates_of, dates_of_duty}
+use Rattle.sy_core.specs.Mentions.{dates_of, dates_of_duty}
 use Rattle.sy_core.specs.Conditions.{events_of}
 use Rattle.sy_core.specs.Chronicle.{chronicle, moment_at}
 

@@ -10,6 +10,7 @@ mod kind;
 mod matching;
 mod position;
 mod proposition;
+mod rounds_law;
 mod state;
 mod table;
 #[cfg(test)]
@@ -24,6 +25,7 @@ pub use kind::{Kind, Target};
 pub use matching::matches;
 pub use position::{Act, Form, Goal, Position, Verb};
 pub use proposition::{Prop, Situation};
+pub use rounds_law::rounds_settle;
 pub use sqlite_items::{Boxed, Items};
 pub use state::StateOf;
 pub use table::{Mark, Table, Verdict};

@@ -1,0 +1,22 @@
+ghost use Rattle.std.specs.Prelude.{◌≡◌, ℤ, Bool, List};
+ghost use Rattle.sy_core.specs.declared.kind.Target.{Target};
+ghost use Rattle.sy_core.specs.declared.state.StateOf.{StateOf};
+ghost use Rattle.sy_core.specs.declared.deed.Deed.{Deed};
+ghost use Rattle.sy_core.specs.declared.happening.What.{What};
+ghost use Rattle.sy_core.specs.Rounds.{IsSettled};
+ghost use Rattle.sy_core.specs.Moments.{Moment};
+ghost use Rattle.sy_core.specs.Mentions.{Event};
+ghost use Rattle.sy_core.specs.Chronicle.{conditions, internal_events};
+ghost use Rattle.sy_core.specs.Dependence.{IsOrderOf};
+
+/// The law of the rounds, and no program: for a deed whose internal events have an order, those of
+/// a point are a set that the conditions leave as it is, and no other set is so.
+pub fn rounds_settle()
+    ensures settled { (deed : Deed) (order : List Event) → IsOrderOf deed order
+        → (point : ℤ) (whats : List What) (state : Target → StateOf) (before : List Moment)
+        → IsSettled (conditions deed point whats state before) (internal_events deed point whats state before) }
+    ensures alone { (deed : Deed) (order : List Event) → IsOrderOf deed order
+        → (point : ℤ) (whats : List What) (state : Target → StateOf) (before : List Moment)
+        → (set : Event → Bool) → IsSettled (conditions deed point whats state before) set
+        → (event : Event) → set event ≡ internal_events deed point whats state before event }
+{}
