@@ -1,3 +1,5 @@
 pub mod Days
+pub mod OneText
+pub mod Reading
 pub mod Texts
 pub mod Years
