@@ -1,3 +1,4 @@
+pub mod Dated
 pub mod Days
 pub mod OneText
 pub mod Reading

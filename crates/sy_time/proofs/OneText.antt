@@ -1,17 +1,15 @@
 -- Two texts in the unit's own form that are read as one point are the same.
-use Rattle.std.proofs.Common.{◌≡◌, ℕ, ℤ, ◌+◌, ◌-◌, ◌*◌, ◌/◌, ◌%◌, ◌<◌, ◌≤◌, ◌==◌, ◌&&◌, Bool, true, false, pos, ◌+ℤ◌, ◌*ℤ◌, refl, sym, ap, ◌∙◌, arith, Some, None, Ok, List, [], ◌∷◌, length, IsTrue, unsigned_abs, if◌then◌else◌, nat_le}
+use Rattle.std.proofs.Common.{◌≡◌, ℕ, ℤ, ◌+◌, ◌-◌, ◌*◌, ◌/◌, ◌%◌, ◌<◌, ◌≤◌, ◌==◌, ◌&&◌, Bool, true, false, pos, ◌+ℤ◌, ◌*ℤ◌, refl, sym, ap, ◌∙◌, arith, Some, None, Ok, List, [], ◌∷◌, length, unsigned_abs, if◌then◌else◌, nat_le}
 use Rattle.std.specs.declared.option.Option.{Option}
 use Rattle.std.proofs.lemmas.Bool.Decides.{nat_tests}
-use Rattle.jiff_core.specs.declared.civil.date.Date.{Date}
 use Rattle.jiff_core.specs.Calendar.{days_from_civil}
-use Rattle.jiff_core.specs.Date.{epoch_day}
 use Rattle.jiff_core.proofs.SignedLemmas.{signed_arith}
 use Rattle.jiff_core.proofs.DateLemmas.{epoch_day_injective}
 use Rattle.sy_base.specs.declared.time.TimeUnit.{TimeUnit}
 use Rattle.sy_base.specs.declared.time.TimeUnit.TheVariants.{Minute, Hour, Day}
 use Rattle.sy_base.specs.Dates.{TimeOfDay, WrittenDate, value_of_digit, joined, number2, number4, at_hour, at_minute, time_text, with_parts, written_date, text_length, is_day, is_time, is_year, units_of_day, units_at}
 use Rattle.sy_time.specs.Date.{date_of}
-use Rattle.sy_time.proofs.Days.{in_month, IsDate-is_day}
+use Rattle.sy_time.proofs.Dated.{of_day, number_of, units_below}
 use Rattle.sy_time.proofs.Reading.{read_as}
 
 -- a digit's byte and value
@@ -266,42 +264,19 @@ record SamePoint (unit : TimeUnit) (day other : ℤ) (t u : TimeOfDay) : Type 0 
   day_is : day ≡ other
   units : units_at unit t.hour t.minute ≡ units_at unit u.hour u.minute
 
-units_below : (unit : TimeUnit) (t : TimeOfDay) → is_time t.hour t.minute ≡ true → units_at unit t.hour t.minute < units_of_day unit
-units_below Minute t is =
-    let hour : t.hour < 24 = grind (arith, nat_tests) in
-    let minute : t.minute < 60 = grind (arith, nat_tests) in
-    omega arith
-units_below Hour t is = grind (arith, nat_tests)
-units_below Day t is = omega arith
-
 same_point : (unit : TimeUnit) (day other : ℤ) (t u : TimeOfDay) → is_time t.hour t.minute ≡ true → is_time u.hour u.minute ≡ true
     → day *ℤ pos (units_of_day unit) +ℤ pos (units_at unit t.hour t.minute) ≡ other *ℤ pos (units_of_day unit) +ℤ pos (units_at unit u.hour u.minute)
     → SamePoint unit day other t u
 same_point Minute day other t u is too same =
-    let a = units_below Minute t is in
-    let b = units_below Minute u too in
+    let a = units_below Minute t.hour t.minute is in
+    let b = units_below Minute u.hour u.minute too in
     record { day_is = omega (arith, signed_arith); units = omega (arith, signed_arith) }
 same_point Hour day other t u is too same =
-    let a = units_below Hour t is in
-    let b = units_below Hour u too in
+    let a = units_below Hour t.hour t.minute is in
+    let b = units_below Hour u.hour u.minute too in
     record { day_is = omega (arith, signed_arith); units = omega (arith, signed_arith) }
 same_point Day day other t u is too same =
     record { day_is = omega (arith, signed_arith); units = refl }
-
--- a day of the calendar as jiff has it
-record OfDay (year month day : ℕ) : Type 0 where
-  date : Date
-  year_is : date.year ≡ pos year
-  month_is : date.month ≡ month
-  day_is : date.day ≡ day
-
-of_day : (year month day : ℕ) → year < 10000 → IsTrue (is_day year month day) → OfDay year month day
-of_day year month day small is =
-    let m = in_month year month day is in
-    record { date = record { year = pos year; month = month; day = day; year_in = (IsDate-is_day year month day small is).0; month_in = (m.month_from, m.month_to); day_in = (m.day_from, m.day_to) }; year_is = refl; month_is = refl; day_is = refl }
-
-number_of : (year month day : ℕ) (x : OfDay year month day) → epoch_day x.date ≡ days_from_civil (pos year) month day
-number_of year month day x = rw (x.year_is, x.month_is, x.day_is) refl
 
 -- one day number is of one day
 record SameDay (y m d y₂ m₂ d₂ : ℕ) : Type 0 where
