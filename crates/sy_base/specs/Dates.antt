@@ -1,6 +1,7 @@
 -- Texts of dates, and the point of each. A text has the form dddd-dd-dd, or dddd-dd-ddTdd, or
 -- dddd-dd-ddTdd:dd, where each d is a digit.
-use Rattle.std.specs.Prelude.{ℕ, ◌+◌, ◌-◌, ◌*◌, Bool, ◌&&◌, ◌==◌, nat_le, nat_lt, if◌then◌else◌, List, [], ◌∷◌, Some, None, ℤ, pos, ◌+ℤ◌, ◌*ℤ◌}
+use Rattle.std.specs.Prelude.{◌≡◌, ℕ, ◌+◌, ◌-◌, ◌*◌, Bool, not, IsTrue, ◌&&◌, ◌==◌, nat_le, nat_lt, if◌then◌else◌, List, [], ◌∷◌, Some, None, ℤ, pos, ◌+ℤ◌, ◌*ℤ◌}
+use Rattle.std.specs.Option.{IsSomeAnd}
 use Rattle.std.specs.declared.option.Option.{Option}
 use Rattle.jiff_core.specs.Calendar.{days_from_civil, days_in_month}
 use Rattle.sy_base.specs.declared.time.TimeUnit.{TimeUnit}
@@ -124,3 +125,14 @@ abbrev pub time_in : TimeUnit → ℕ → ℕ → TimeOfDay
 time_in Minute hour minute = record { form = Minute; hour = hour; minute = minute }
 time_in Hour hour minute = record { form = Hour; hour = hour; minute = 0 }
 time_in Day hour minute = midnight
+
+-- a date that a text of a unit may have: in no finer form, in the calendar, and from 1900 to 2999
+abbrev pub is_date : TimeUnit → WrittenDate → Bool
+is_date unit date =
+    not (is_finer_form date.time.form unit) && is_day date.year date.month date.day
+    && is_time date.time.hour date.time.minute && is_year date.year
+
+-- the text is one of a date of the unit, and this is its point
+abbrev pub IsDateText : TimeUnit → List ℕ → ℤ → Type 0
+IsDateText unit bytes point =
+    IsSomeAnd (written_date bytes) (λ date. IsTrue (is_date unit date) × (point_of unit date ≡ point))

@@ -1,4 +1,5 @@
-ghost use Rattle.std.specs.Prelude.{◌≡◌, ◌*◌, ◌/◌, ◌≤◌, false};
+ghost use Rattle.std.specs.Prelude.{◌≡◌, ◌*◌, ◌/◌, ◌≤◌, ◌≤ℤ◌, ◌+ℤ◌, pos, false};
+ghost use Rattle.sy_base.specs.Dates.{units_of_day};
 ghost use Rattle.sy_base.specs.Points.{IsAddable, added, greatest_count, is_finer, minutes_of_measure, minutes_of_unit};
 
 use crate::unit::minutes_of_unit;
@@ -24,18 +25,20 @@ fn units_of_duration(unit: TimeUnit, duration: Duration) -> u64
     requires count { duration.count ≤ greatest_count duration.measure }
     ensures value { result
         ≡ duration.count * (minutes_of_measure duration.measure / minutes_of_unit unit) }
-    ensures bound { result ≤ 210379680 }
+    ensures bound { result ≤ 146097 * units_of_day unit }
 {
     minutes_of_count(duration.count, duration.measure) / minutes_of_unit(unit) as u64
 }
 
 /// The point a duration after another. The duration's measure isn't finer than the unit, and its
-/// count spans at most 146,097 days.
+/// count spans at most 146,097 days, so the point is at most as many days later.
 pub fn add(unit: TimeUnit, point: Point, duration: Duration) -> Point
     requires measure { is_finer duration.measure unit ≡ false }
     requires count { duration.count ≤ greatest_count duration.measure }
     requires point { IsAddable unit point }
-    ensures { result ≡ added unit point duration }
+    ensures value { result ≡ added unit point duration }
+    ensures not_before { point ≤ℤ result }
+    ensures not_after { result ≤ℤ (point +ℤ pos (146097 * units_of_day unit)) }
 {
     point + units_of_duration(unit, duration) as i64
 }

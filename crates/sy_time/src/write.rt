@@ -1,4 +1,4 @@
-ghost use Rattle.std.specs.Prelude.{◌≡◌, ℕ, ◌+◌, ◌*◌, ◌<◌, ◌≤◌, pos, neg_ℤ, ◌+ℤ◌, ◌*ℤ◌, ◌≤ℤ◌, take, drop, Some, Ok};
+ghost use Rattle.std.specs.Prelude.{◌≡◌, ℕ, ◌+◌, ◌*◌, ◌<◌, ◌≤◌, pos, neg_ℤ, ◌+ℤ◌, ◌*ℤ◌, ◌≤ℤ◌, take, drop, length, List, Some, Ok};
 ghost use Rattle.jiff_core.specs.Date.{epoch_day};
 ghost use Rattle.sy_base.specs.Dates.{written_date, text_length, time_in};
 ghost use Rattle.sy_base.specs.Points.{minutes_of_unit, IsDated};
@@ -105,9 +105,11 @@ fn copy_front(text: &[u8; 16], length: usize, buf: &mut [u8; 16])
 /// that is: 10 for Day, 13 for Hour, 16 for Minute. The rest of `buf` stays as it was.
 pub fn write_date(unit: TimeUnit, point: Point, buf: &mut [u8; 16]) -> usize
     requires { IsDated unit point }
-    // In one unit only one text of this length is read as the point.
     ensures length { result ≡ text_length unit }
     ensures text { date_of unit (take result buf.new) ≡ Ok point }
+    // No other text of this length is read as the point, so each byte is told.
+    ensures only { (other : List ℕ) → length other ≡ text_length unit
+        → date_of unit other ≡ Ok point → other ≡ take result buf.new }
     ensures rest { drop result buf.new ≡ drop result buf.old }
 {
     let (day, minute) = day_and_minute(unit, point);

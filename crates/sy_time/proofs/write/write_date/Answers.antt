@@ -1,15 +1,18 @@
-use Rattle.std.proofs.Common.{◌≡◌, ◌∙◌, ◌*ℤ◌, ◌+ℤ◌, pos, ap, sym, arith, true, FitsSigned, w64, to_z-of_z}
+use Rattle.std.proofs.Common.{◌≡◌, ◌∙◌, ◌*ℤ◌, ◌+ℤ◌, pos, Ok, take, length, ap, arith, true, FitsSigned, w64, to_z-of_z}
 use Rattle.std.proofs.lemmas.Bool.Decides.{nat_tests}
+use Rattle.std.proofs.lemmas.List.{length-take-le}
 use Rattle.jiff_core.specs.Calendar.{days_from_civil}
-use Rattle.sy_base.specs.Dates.{is_year}
+use Rattle.sy_base.specs.Dates.{is_year, text_length}
 use Rattle.sy_base.specs.Points.{minutes_of_unit}
 use Rattle.sy_time.specs.Date.{answer, date_of}
 use Rattle.sy_time.proofs.Days.{is_day-date, minute_of_day}
+use Rattle.sy_time.proofs.OneText.{one_text}
 use Rattle.sy_time.proofs.Texts.{answer-first_minute}
 use Rattle.sy_time.proofs.write.write_date.Goals as goal
 
-pub returns-clause-text : goal.returns-clause-text
-returns-clause-text c =
+-- the text is read as the point
+read : (c : goal.After-copy_front) → date_of c.args.unit (take c.text_length-length.result c.copy_front.new.buf) ≡ Ok c.args.point
+read c =
     let year = c.year_number.result in
     let date = c.date_of_day-date.result in
     let day = c.day_and_minute-day.result.0 in
@@ -22,3 +25,11 @@ returns-clause-text c =
     let read = ap (answer c.args.unit) (c.minute_text-text.ensures c.args.unit)
     ∙ answer-first_minute c.args.unit year date.month date.day minute c.args.point c.day_and_minute-day.ensures.minute (is_day-date date year c.year_number.ensures.value) in_range first in
     ap (date_of c.args.unit) c.copy_front.ensures.front ∙ rw c.text_length-length.ensures.value read
+
+pub returns-clause-text : goal.returns-clause-text
+returns-clause-text c = read c
+
+pub returns-clause-only : goal.returns-clause-only
+returns-clause-only c = λ other long other_read.
+    let own : length (take c.text_length-length.result c.copy_front.new.buf) ≡ text_length c.args.unit = length-take-le c.text_length-length.result c.copy_front.new.buf (omega arith) ∙ c.text_length-length.ensures.value in
+    one_text c.args.unit c.args.point other _ long own other_read (read c)
