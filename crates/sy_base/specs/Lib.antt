@@ -6,5 +6,6 @@ pub mod Outside
 pub mod Points
 pub mod Reader
 pub mod Reading
+pub mod Refusals
 pub mod Sure
 pub mod Writing

@@ -1,3 +1,6 @@
+ghost use Rattle.std.specs.Prelude.{Some};
+ghost use Rattle.sy_base.specs.Refusals.{fault_word, file_word};
+
 use crate::{Memory, Text};
 use std::fmt;
 use thiserror::Error;
@@ -15,6 +18,8 @@ pub enum FileKind {
 }
 
 impl fmt::Display for FileKind {
+    ghost output = { λ file. Some (file_word file) };
+
     fn fmt<W: fmt::Write>(&self, f: &mut fmt::Formatter<W>) -> fmt::Result {
         f.write_str(match self {
             FileKind::Spec => "spec",
@@ -74,6 +79,47 @@ pub enum FaultName {
     TooLarge,
 }
 
+impl fmt::Display for FaultName {
+    ghost output = { λ name. Some (fault_word name) };
+
+    fn fmt<W: fmt::Write>(&self, f: &mut fmt::Formatter<W>) -> fmt::Result {
+        f.write_str(match self {
+            FaultName::NotYet => "NotYet",
+            FaultName::LexFault => "LexFault",
+            FaultName::SyntaxFault => "SyntaxFault",
+            FaultName::TooBig => "TooBig",
+            FaultName::DuplicateName => "DuplicateName",
+            FaultName::UnknownName => "UnknownName",
+            FaultName::CyclicIsA => "CyclicIsA",
+            FaultName::WrongType => "WrongType",
+            FaultName::NumberOutOfRange => "NumberOutOfRange",
+            FaultName::BadDate => "BadDate",
+            FaultName::BadUnit => "BadUnit",
+            FaultName::SituationInConsequent => "SituationInConsequent",
+            FaultName::TooMany => "TooMany",
+            FaultName::InstantCycle => "InstantCycle",
+            FaultName::DuplicateParam => "DuplicateParam",
+            FaultName::ExtraParam => "ExtraParam",
+            FaultName::MissingParam => "MissingParam",
+            FaultName::WrongParamType => "WrongParamType",
+            FaultName::PreconditionFalse => "PreconditionFalse",
+            FaultName::ConstraintFalse => "ConstraintFalse",
+            FaultName::MissingDomain => "MissingDomain",
+            FaultName::TooManyValues => "TooManyValues",
+            FaultName::BadBound => "BadBound",
+            FaultName::BadToken => "BadToken",
+            FaultName::WrongValues => "WrongValues",
+            FaultName::TooEarly => "TooEarly",
+            FaultName::TooLong => "TooLong",
+            FaultName::TooManyLines => "TooManyLines",
+            FaultName::OtherProperty => "OtherProperty",
+            FaultName::OutsideBound => "OutsideBound",
+            FaultName::OutsideValues => "OutsideValues",
+            FaultName::TooLarge => "TooLarge",
+        })
+    }
+}
+
 /// Why a text is refused, and where.
 #[derive(Debug, Drop)]
 pub struct Refusal {
@@ -87,7 +133,7 @@ pub struct Refusal {
 /// Why a text gave no value.
 #[derive(Debug, Drop, Error)]
 pub enum Refused {
-    #[error("refused {} {:?}", .0.file, .0.name)]
+    #[error("refused {} {}", .0.file, .0.name)]
     Refusal(Refusal),
     #[error("out of memory")]
     Memory,
