@@ -1,5 +1,5 @@
 -- The steps of a reader of lines: reading on until a line is whole, and cutting it off.
-use Rattle.std.specs.Prelude.{◌≡◌, ℕ, ◌^◌, ◌<◌, ◌≤◌, ⊤, false, List, [], length, is_none, None, Some, Ok, Err, Result, take, drop}
+use Rattle.std.specs.Prelude.{◌≡◌, ℕ, ◌^◌, ◌<◌, ◌≤◌, ⊤, Bool, false, List, [], length, is_none, None, Some, Ok, Err, Result, take, drop}
 use Rattle.std.specs.declared.option.Option.{Option}
 use Rattle.sy_base.specs.Lines.{has_newline}
 use Rattle.sy_base.specs.LineReading.{IsFirst}
@@ -14,12 +14,12 @@ IsReadingFault TooLong = ⊥
 IsReadingFault TooManyLines = ⊥
 IsReadingFault Memory = ⊤
 
--- reading on ended with this fault, and no newline is held
-abbrev pub LeavesOff : List ℕ → LineFault → Type 0
-LeavesOff held ReadFault = has_newline held ≡ false
-LeavesOff held TooLong = ⊥
-LeavesOff held TooManyLines = ⊥
-LeavesOff held Memory = ⊤
+-- reading on ended with this fault: no newline is held, and the input hadn't ended
+abbrev pub LeavesOff : List ℕ → Bool → LineFault → Type 0
+LeavesOff held ended ReadFault = (has_newline held ≡ false) × (ended ≡ false)
+LeavesOff held ended TooLong = ⊥
+LeavesOff held ended TooManyLines = ⊥
+LeavesOff held ended Memory = ⊤
 
 -- what is cut off the bytes that are held, whose first newline is this one
 abbrev pub CutsHeld : List ℕ → Option ℕ → ℕ → Result (Option Cut) LineFault → Type 0

@@ -32,7 +32,7 @@ pub record IsFirst (bytes rest : List ℕ) (ended : Bool) (given : ℕ) (line : 
 abbrev pub Cuts : List ℕ → List ℕ → Bool → ℕ → Result (Option Line) LineFault → Type 0
 Cuts bytes rest ended given (Ok (Some line)) = IsFirst bytes rest ended given line
 Cuts bytes rest ended given (Ok None) = (bytes ≡ []) × (rest ≡ []) × IsTrue ended
-Cuts bytes rest ended given (Err ReadFault) = (has_newline bytes ≡ false) × (rest ≡ bytes)
+Cuts bytes rest ended given (Err ReadFault) = (has_newline bytes ≡ false) × (rest ≡ bytes) × (ended ≡ false)
 Cuts bytes rest ended given (Err TooLong) = (4096 < length bytes) × (has_newline (take 4097 bytes) ≡ false)
 Cuts bytes rest ended given (Err TooManyLines) = (0 < length bytes) × (given ≡ 2 ^ 32)
 Cuts bytes rest ended given (Err Memory) = ⊤

@@ -92,7 +92,7 @@ fn read_more<S: Source>(
     ensures ended { IsTrue ended.new → IsTrue ended.old ⊎ IsAtEnd (S.left source.new) }
     ensures stays { IsTrue ended.old → IsTrue ended.new }
     ensures piece { length held.new.items ≤ length held.old.items + PIECE }
-    ensures kept { OnErr result (held.new.items ≡ held.old.items) }
+    ensures kept { OnErr result ((held.new.items ≡ held.old.items) × (ended.new ≡ ended.old)) }
     ensures err { IfErr result IsReadingFault }
 
     ensures cause { CauseOf is_read_fault (S.faults source.old) (S.faults source.new) result }
@@ -127,7 +127,7 @@ fn fill<S: Source>(
     ensures stays { IsTrue ended.old → IsTrue ended.new }
     ensures idle { IsTrue ended.old → held.new.items ≡ held.old.items }
     ensures needed { ReadsAsNeeded held.new.items }
-    ensures err { IfErr result (LeavesOff held.new.items) }
+    ensures err { IfErr result (LeavesOff held.new.items ended.new) }
 
     ensures cause { CauseOf is_read_fault (S.faults source.old) (S.faults source.new) result }
     ensures told { is_some (S.left source.new) ≡ is_some (S.left source.old) }
@@ -212,7 +212,7 @@ fn find_newline<S: Source>(
     ensures stays { IsTrue ended.old → IsTrue ended.new }
     ensures idle { (IsTrue (has_newline (drop at.old buffer.old.items)) ⊎ IsTrue ended.old) → drop at.new buffer.new.items ≡ drop at.old buffer.old.items }
     ensures needed { (drop at.new buffer.new.items ≡ drop at.old buffer.old.items) ⊎ ReadsAsNeeded (drop at.new buffer.new.items) }
-    ensures err { IfErr result (LeavesOff (drop at.new buffer.new.items)) }
+    ensures err { IfErr result (LeavesOff (drop at.new buffer.new.items) ended.new) }
 
     ensures cause { CauseOf is_read_fault (S.faults source.old) (S.faults source.new) result }
     ensures told { is_some (S.left source.new) ≡ is_some (S.left source.old) }
