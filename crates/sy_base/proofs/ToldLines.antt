@@ -47,6 +47,15 @@ lines_of-whole : (line : List ℕ) → 0 < length line → has_newline line ≡ 
 lines_of-whole [] h p = absurd (omega arith)
 lines_of-whole (x ∷ xs) h p = lines_of-last x xs p
 
+-- bytes that aren't none have a first line
+some_line : (bytes : List ℕ) → 0 < length bytes → (line : List ℕ) × (lines : List (List ℕ)) × (lines_of bytes ≡ line ∷ lines)
+some_line [] h = absurd (omega arith)
+some_line (x ∷ xs) h =
+    elim (eqb x 10) as (λ b. (line : List ℕ) × (lines : List (List ℕ)) × (cond b ([] ∷ lines_of xs) (onto_first x (lines_of xs)) ≡ line ∷ lines)) [
+      | true ↦ ([], lines_of xs, refl)
+      | false ↦ let f = first_of x (lines_of xs) in (x ∷ f.0, f.1, f.2)
+    ]
+
 -- a told source loses what was taken
 pub taken_from : (bytes rest taken : List ℕ) (left : Option (List ℕ)) → left ≡ Some rest → Consumes (Some bytes) left taken → bytes ≡ taken ++ rest
 taken_from bytes rest taken left e p = subst (λ l. Consumes (Some bytes) l taken) e p
@@ -88,6 +97,12 @@ module _ (old new : Reading) (bytes rest : List ℕ) (left : Option (List ℕ)) 
       let b = begins (take 4097 hand) (drop 4097 hand ++ rest) (omega arith) k.cuts.1 in
       (take 4097 hand ++ b.more, b.lines, ap lines_of whole ∙ b.cut, omega (arith, length-append (take 4097 hand) b.more))
 
+  pub next-many : Next old new (Some bytes) left (Err TooManyLines) → (line : List ℕ) × (lines : List (List ℕ)) × (lines_of (old.held ++ bytes) ≡ line ∷ lines)
+  next-many k =
+      let split : bytes ≡ k.taken ++ rest = taken_from bytes rest k.taken left e k.consumed in
+      let whole : old.held ++ bytes ≡ (old.held ++ k.taken) ++ rest = ap (λ l. old.held ++ l) split ∙ sym (append_assoc old.held k.taken rest) in
+      some_line (old.held ++ bytes) (omega (arith, k.cuts.0, ap length whole, length-append (old.held ++ k.taken) rest))
+
   pub next-synced : (result : Result (Option Line) LineFault) → Next old new (Some bytes) left result → IsTrue new.ended → rest ≡ []
   next-synced result k now = at_end k.taken (taken_from bytes rest k.taken left e k.consumed) k.ended now
 
@@ -96,5 +111,5 @@ module _ (old new : Reading) (bytes rest : List ℕ) (left : Option (List ℕ)) 
   cuts-lines (Ok None) k = next-none k
   cuts-lines (Err TooLong) k = next-long k
   cuts-lines (Err ReadFault) k = tt
-  cuts-lines (Err TooManyLines) k = tt
+  cuts-lines (Err TooManyLines) k = next-many k
   cuts-lines (Err Memory) k = tt

@@ -27,6 +27,6 @@ CutsHeld held newline given (Ok (Some cut)) =
     (cut.size ≤ length held) × IsFirst held (drop cut.size held) (is_none newline) given cut.line
 CutsHeld held newline given (Ok None) = held ≡ []
 CutsHeld held newline given (Err ReadFault) = ⊥
-CutsHeld held newline given (Err TooLong) = (4096 < length held) × (has_newline (take 4097 held) ≡ false)
+CutsHeld held newline given (Err TooLong) = (4096 < length held) × (has_newline (take 4097 held) ≡ false) × (given < 2 ^ 32)
 CutsHeld held newline given (Err TooManyLines) = (0 < length held) × (given ≡ 2 ^ 32)
 CutsHeld held newline given (Err Memory) = ⊤

@@ -33,7 +33,7 @@ abbrev pub Cuts : List ℕ → List ℕ → Bool → ℕ → Result (Option Line
 Cuts bytes rest ended given (Ok (Some line)) = IsFirst bytes rest ended given line
 Cuts bytes rest ended given (Ok None) = (bytes ≡ []) × (rest ≡ []) × IsTrue ended
 Cuts bytes rest ended given (Err ReadFault) = (has_newline bytes ≡ false) × (rest ≡ bytes) × (ended ≡ false)
-Cuts bytes rest ended given (Err TooLong) = (4096 < length bytes) × (has_newline (take 4097 bytes) ≡ false)
+Cuts bytes rest ended given (Err TooLong) = (4096 < length bytes) × (has_newline (take 4097 bytes) ≡ false) × (given < 2 ^ 32)
 Cuts bytes rest ended given (Err TooManyLines) = (0 < length bytes) × (given ≡ 2 ^ 32)
 Cuts bytes rest ended given (Err Memory) = ⊤
 
@@ -68,4 +68,6 @@ CutsLines old new bytes rest (Ok (Some line)) = lines_of (old.held ++ bytes) ≡
 CutsLines old new bytes rest (Ok None) = old.held ++ bytes ≡ []
 CutsLines old new bytes rest (Err TooLong) =
     (line : List ℕ) × (lines : List (List ℕ)) × (lines_of (old.held ++ bytes) ≡ line ∷ lines) × (4096 < length line)
+CutsLines old new bytes rest (Err TooManyLines) =
+    (line : List ℕ) × (lines : List (List ℕ)) × (lines_of (old.held ++ bytes) ≡ line ∷ lines)
 CutsLines old new bytes rest (Err e) = ⊤
