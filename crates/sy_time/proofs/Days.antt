@@ -6,7 +6,7 @@ use Rattle.jiff_core.specs.Date.{IsYmd, epoch_day}
 use Rattle.std.proofs.lemmas.Bool.Decides.{nat_tests}
 use Rattle.std.proofs.lemmas.Int.{ints}
 use Rattle.jiff_core.proofs.SignedLemmas.{signed_arith}
-use Rattle.jiff_core.specs.Calendar.{IsDate, days_in_month, days_from_civil}
+use Rattle.jiff_core.specs.Calendar.{IsCivilDate, IsDate, days_in_month, days_from_civil}
 use Rattle.sy_base.specs.Dates.{is_day}
 
 record Between (m d n : ℕ) : Type 0 where
@@ -31,6 +31,11 @@ pub IsDate-from_test : (y m d : ℕ) → y < 10000 → IsTrue (is_day y m d) →
 IsDate-from_test y m d small day =
     let b = between m d (days_in_month (pos y) m) day in
     ((omega (arith, ints), omega (arith, ints)), (below 1 m b.low, below m 12 b.high), (below 1 d b.first, below d _ b.last))
+
+pub IsCivilDate-from_test : (y m d : ℕ) → y < 10000 → IsTrue (is_day y m d) → IsCivilDate (pos y) m d
+IsCivilDate-from_test y m d small day =
+    let b = between m d (days_in_month (pos y) m) day in
+    ((omega (arith, ints), omega (arith, ints)), (b.low, b.high), (b.first, b.last))
 
 pub is_day-from_IsDate : (y m d : ℕ) → IsDate (pos y) (pos m) (pos d) → IsTrue (is_day y m d)
 is_day-from_IsDate y m d day = test m d (days_in_month (pos y) m) (above 1 m day.1.0) (above m 12 day.1.1) (above 1 d day.2.0) (above d _ day.2.1)

@@ -1,5 +1,5 @@
 -- What is written is read back.
-use Rattle.std.proofs.Common.{◌≡◌, ℕ, ◌+◌, ◌*◌, ◌/◌, ◌%◌, ◌<◌, ◌≤◌, pos, ℤ, ◌+ℤ◌, ◌*ℤ◌, refl, ap, arith, true, false, ◌∙◌, Some, Ok, take, [], ◌∷◌, IsTrue}
+use Rattle.std.proofs.Common.{◌≡◌, ℕ, ◌/◌, ◌%◌, ◌<◌, pos, ℤ, ◌+ℤ◌, ◌*ℤ◌, refl, ap, arith, true, false, ◌∙◌, Some, Ok, take, [], ◌∷◌}
 use Rattle.std.specs.declared.option.Option.{Option}
 use Rattle.std.proofs.lemmas.Bool.Decides.{nat_tests}
 use Rattle.jiff_core.specs.Calendar.{days_from_civil}
@@ -8,7 +8,7 @@ use Rattle.sy_base.specs.declared.time.TimeUnit.{TimeUnit}
 use Rattle.sy_base.specs.declared.time.TimeUnit.TheVariants.{Minute, Hour, Day}
 use Rattle.sy_base.specs.Dates.{TimeOfDay, WrittenDate, is_finer_form, number2, number4, at_hour, at_minute, midnight, with_parts, written_date, text_length, time_in, is_day, is_time, is_year, point_of}
 use Rattle.sy_base.specs.Points.{minutes_of_unit}
-use Rattle.sy_time.specs.Date.{answer, point_or_fault}
+use Rattle.sy_time.specs.Date.{answer}
 
 parts : (y m d : Option ℕ) (t : Option TimeOfDay) (year month day : ℕ) (time : TimeOfDay)
     → y ≡ Some year → m ≡ Some month → d ≡ Some day → t ≡ Some time

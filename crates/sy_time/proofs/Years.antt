@@ -1,5 +1,5 @@
 -- The years of the day numbers of dates.
-use Rattle.std.proofs.Common.{◌≡◌, ℕ, ℤ, ◌+◌, ◌<◌, ◌≤◌, pos, ◌+ℤ◌, ◌≤ℤ◌, ◌<ℤ◌, refl, arith}
+use Rattle.std.proofs.Common.{◌≡◌, ℕ, ℤ, ◌≤◌, pos, ◌+ℤ◌, ◌≤ℤ◌, ◌<ℤ◌, refl, arith}
 use Rattle.std.proofs.lemmas.Int.{by_lt_z}
 use Rattle.jiff_core.specs.declared.civil.date.Date.{Date}
 use Rattle.jiff_core.specs.Date.{epoch_day}
@@ -8,10 +8,10 @@ use Rattle.jiff_core.proofs.SignedLemmas.{signed_arith}
 use Rattle.jiff_core.proofs.MarchLemmas.{day_count-early}
 use Rattle.jiff_core.proofs.CalendarLemmas.{days_from_civil-day_count, day_count-lt_year, day_count-later_year, day_count-day_of_year}
 
-first_of_1900 : day_count (pos 1900) 1 1 ≡ 4346386
+pub first_of_1900 : day_count (pos 1900) 1 1 ≡ 4346386
 first_of_1900 = day_count-early (pos 1900) 11899 1 1 refl (omega arith) (omega arith) (omega arith)
 
-first_of_3000 : day_count (pos 3000) 1 1 ≡ 4748153
+pub first_of_3000 : day_count (pos 3000) 1 1 ≡ 4748153
 first_of_3000 = day_count-early (pos 3000) 12999 1 1 refl (omega arith) (omega arith) (omega arith)
 
 civil : (d : Date) → IsCivilDate d.year d.month d.day

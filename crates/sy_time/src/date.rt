@@ -1,8 +1,9 @@
-ghost use Rattle.std.specs.Prelude.{◌≡◌, ◌<◌, ◌↔◌, pos, ◌+ℤ◌, ◌*ℤ◌, IfSome, IsSome, IsTrue};
+ghost use Rattle.std.specs.Prelude.{◌≡◌, ◌<◌, ◌↔◌, pos, ◌+ℤ◌, ◌*ℤ◌, IfOk, IfSome, IsSome, IsTrue};
 ghost use Rattle.jiff_core.specs.Calendar.{days_from_civil};
 ghost use Rattle.jiff_core.specs.Date.{epoch_day};
 ghost use Rattle.sy_base.specs.Dates as dates;
 ghost use Rattle.sy_base.specs.Dates.{is_day, is_time, is_year, units_of_day, units_at};
+ghost use Rattle.sy_base.specs.Points.{IsDated};
 ghost use Rattle.sy_time.specs.Date.{date_of, point_or_fault};
 
 use crate::unit::minutes_of_unit;
@@ -93,7 +94,8 @@ fn dated_point(unit: TimeUnit, date: &WrittenDate) -> Result<Point, DateFault>
 /// The point of what a text of a date writes. A text in the form of a coarser unit means its first
 /// point. `Shape` comes first, then `TooFine`, then `NoSuchDay`, then `OutOfRange`.
 pub fn read_date(unit: TimeUnit, bytes: &[u8]) -> Result<Point, DateFault>
-    ensures { result ≡ date_of unit bytes.now }
+    ensures point { result ≡ date_of unit bytes.now }
+    ensures dated { IfOk result (IsDated unit) }
 {
     let Some(date) = read_written(bytes) else {
         return Err(DateFault::Shape);

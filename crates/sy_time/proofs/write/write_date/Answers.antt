@@ -1,4 +1,4 @@
-use Rattle.std.proofs.Common.{◌≡◌, ◌∙◌, ◌*ℤ◌, ◌+ℤ◌, pos, ap, sym, arith, true, FitsSigned, w64, to_z-of_z}
+use Rattle.std.proofs.Common.{◌≡◌, ◌∙◌, ◌*ℤ◌, ◌+ℤ◌, pos, ap, arith, true, FitsSigned, w64, to_z-of_z}
 use Rattle.std.proofs.lemmas.Bool.Decides.{nat_tests}
 use Rattle.jiff_core.specs.Calendar.{days_from_civil}
 use Rattle.sy_base.specs.Dates.{is_year}
