@@ -27,15 +27,15 @@ below a b h = omega (arith, ints)
 above : (a b : ℕ) → pos a ≤ℤ pos b → a ≤ b
 above a b h = omega (arith, ints)
 
-pub IsDate-from_test : (y m d : ℕ) → y < 10000 → IsTrue (is_day y m d) → IsDate (pos y) (pos m) (pos d)
-IsDate-from_test y m d small day =
-    let b = between m d (days_in_month (pos y) m) day in
-    ((omega (arith, ints), omega (arith, ints)), (below 1 m b.low, below m 12 b.high), (below 1 d b.first, below d _ b.last))
-
 pub IsCivilDate-from_test : (y m d : ℕ) → y < 10000 → IsTrue (is_day y m d) → IsCivilDate (pos y) m d
 IsCivilDate-from_test y m d small day =
     let b = between m d (days_in_month (pos y) m) day in
     ((omega (arith, ints), omega (arith, ints)), (b.low, b.high), (b.first, b.last))
+
+pub IsDate-from_test : (y m d : ℕ) → y < 10000 → IsTrue (is_day y m d) → IsDate (pos y) (pos m) (pos d)
+IsDate-from_test y m d small day =
+    let date = IsCivilDate-from_test y m d small day in
+    (date.0, (below 1 m date.1.0, below m 12 date.1.1), (below 1 d date.2.0, below d _ date.2.1))
 
 pub is_day-from_IsDate : (y m d : ℕ) → IsDate (pos y) (pos m) (pos d) → IsTrue (is_day y m d)
 is_day-from_IsDate y m d day = test m d (days_in_month (pos y) m) (above 1 m day.1.0) (above m 12 day.1.1) (above 1 d day.2.0) (above d _ day.2.1)
@@ -53,6 +53,12 @@ epoch_day-of_Ymd E (Err e) y m d p = tt
 pub is_day-date : (date : Date) (year : ℕ) → pos year ≡ date.year → IsTrue (is_day year date.month date.day)
 is_day-date date year same =
     test date.month date.day (days_in_month (pos year) date.month) date.month_in.0 date.month_in.1 date.day_in.0 (subst (λ (y : ℤ). date.day ≤ days_in_month y date.month) (sym same) date.day_in.1)
+
+pub civil : (date : Date) → IsCivilDate date.year date.month date.day
+civil date = (date.year_in, date.month_in, date.day_in)
+
+pub civil-year : (date : Date) (year : ℕ) → pos year ≡ date.year → IsCivilDate (pos year) date.month date.day
+civil-year date year same = subst (λ (y : ℤ). IsCivilDate y date.month date.day) (sym same) (civil date)
 
 -- a minute of a day, counted from 1970 by the day's number and from the calendar's first date by its count
 pub minute_of_day : (first number : ℤ) (day minute : ℕ)

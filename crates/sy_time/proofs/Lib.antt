@@ -1,3 +1,4 @@
+pub mod DateOfPoint
 pub mod Days
 pub mod Ranges
 pub mod Texts

@@ -11,11 +11,11 @@ use Rattle.sy_base.specs.Dates.{WrittenDate, is_day, is_time, is_year, units_of_
 use Rattle.sy_base.specs.Points.{IsDated}
 use Rattle.sy_time.specs.declared.date.DateFault.{DateFault}
 use Rattle.sy_time.specs.declared.date.DateFault.TheVariants.{NoSuchDay, OutOfRange}
-use Rattle.sy_time.specs.Date.{answer, point_or_fault}
+use Rattle.sy_time.specs.Date.{point_or_fault}
 use Rattle.sy_time.proofs.Days.{IsCivilDate-from_test}
 use Rattle.sy_time.proofs.Years.{first_of_1900, first_of_3000}
 
-first_of_year : (year : ℕ) → 1900 ≤ year → 4346386 ≤ day_count (pos year) 1 1
+pub first_of_year : (year : ℕ) → 1900 ≤ year → 4346386 ≤ day_count (pos year) 1 1
 first_of_year year late =
     by_lt_z (pos 1900) (pos year)
     (λ later. omega (arith, first_of_1900, day_count-later_year (pos 1900) (pos year) (omega (arith, signed_arith)) later))
@@ -48,14 +48,15 @@ point_at-in_range unit year month day hour minute has_day has_time in_range =
     let n : minute < 60 = grind (arith, nat_tests) in
     point_in_range unit _ hour minute (number_in_range year month day (IsCivilDate-from_test year month day (omega arith) has_day) late early) h n
 
+-- a fact of a point with no fault holds wherever there is a point
 faultless : (possible in_range : Bool) (point : ℤ) (P : ℤ → Type 0) → (possible ≡ true → in_range ≡ true → P point)
     → IfOk (if possible then (if in_range then Ok point else Err OutOfRange) else Err NoSuchDay) P
 faultless true true point P holds = holds refl refl
 faultless true false point P holds = tt
 faultless false in_range point P holds = tt
 
-pub IsDated-point_or_fault : (unit : TimeUnit) (date : WrittenDate) (answer : Result ℤ DateFault) → answer ≡ point_or_fault unit date → IfOk answer (IsDated unit)
-IsDated-point_or_fault unit date answer same = rw same
+pub IsDated-point_or_fault : (unit : TimeUnit) (date : WrittenDate) (result : Result ℤ DateFault) → result ≡ point_or_fault unit date → IfOk result (IsDated unit)
+IsDated-point_or_fault unit date result same = rw same
     (faultless (is_day date.year date.month date.day && is_time date.time.hour date.time.minute) (is_year date.year) (point_of unit date) (IsDated unit)
     (λ possible in_range.
     let has_day : is_day date.year date.month date.day ≡ true = grind (arith, nat_tests) in

@@ -3,19 +3,17 @@ use Rattle.std.proofs.Common.{◌≡◌, ℕ, ℤ, ◌≤◌, pos, ◌+ℤ◌, �
 use Rattle.std.proofs.lemmas.Int.{by_lt_z}
 use Rattle.jiff_core.specs.declared.civil.date.Date.{Date}
 use Rattle.jiff_core.specs.Date.{epoch_day}
-use Rattle.jiff_core.specs.Calendar.{day_count, IsCivilDate}
+use Rattle.jiff_core.specs.Calendar.{day_count}
 use Rattle.jiff_core.proofs.SignedLemmas.{signed_arith}
 use Rattle.jiff_core.proofs.MarchLemmas.{day_count-early}
 use Rattle.jiff_core.proofs.CalendarLemmas.{days_from_civil-day_count, day_count-lt_year, day_count-later_year, day_count-day_of_year}
+use Rattle.sy_time.proofs.Days.{civil}
 
 pub first_of_1900 : day_count (pos 1900) 1 1 ≡ 4346386
 first_of_1900 = day_count-early (pos 1900) 11899 1 1 refl (omega arith) (omega arith) (omega arith)
 
 pub first_of_3000 : day_count (pos 3000) 1 1 ≡ 4748153
 first_of_3000 = day_count-early (pos 3000) 12999 1 1 refl (omega arith) (omega arith) (omega arith)
-
-civil : (d : Date) → IsCivilDate d.year d.month d.day
-civil d = (d.year_in, d.month_in, d.day_in)
 
 -- a day from the first of 1900 on is of no year before
 pub year-not_before : (d : Date) (day : ℕ) → epoch_day d +ℤ pos 4371587 ≡ pos day → 4346020 ≤ day → pos 1900 ≤ℤ d.year
