@@ -1,5 +1,6 @@
 pub mod Advances
 pub mod Appending
+pub mod DateTexts
 pub mod FileReads
 pub mod LineLemmas
 pub mod ReadLemmas

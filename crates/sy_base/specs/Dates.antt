@@ -1,12 +1,12 @@
--- Texts of dates, and the point of each. A text has the form dddd-dd-dd, or dddd-dd-ddTdd, or
+-- Texts of dates, the point of each, and the text of each point. A text has the form dddd-dd-dd, or dddd-dd-ddTdd, or
 -- dddd-dd-ddTdd:dd, where each d is a digit.
-use Rattle.std.specs.Prelude.{◌≡◌, ℕ, ◌+◌, ◌-◌, ◌*◌, Bool, not, IsTrue, ◌&&◌, ◌==◌, nat_le, nat_lt, if◌then◌else◌, List, [], ◌∷◌, Some, None, ℤ, pos, ◌+ℤ◌, ◌*ℤ◌}
+use Rattle.std.specs.Prelude.{ℕ, zero, suc, ◌+◌, ◌-◌, ◌*◌, ◌/◌, ◌%◌, Bool, ◌&&◌, ◌==◌, nat_le, nat_lt, if◌then◌else◌, List, [], ◌∷◌, ◌++◌, Some, None, ℤ, pos, ◌+ℤ◌, ◌-ℤ◌, ◌*ℤ◌, unsigned_abs, codes, ◌≡◌, not, IsTrue}
 use Rattle.std.specs.Option.{IsSomeAnd}
 use Rattle.std.specs.declared.option.Option.{Option}
-use Rattle.jiff_core.specs.Calendar.{days_from_civil, days_in_month}
+use Rattle.jiff_core.specs.Calendar.{days_from_civil, days_in_month, days_in_year}
 use Rattle.sy_base.specs.declared.time.TimeUnit.{TimeUnit}
 use Rattle.sy_base.specs.declared.time.TimeUnit.TheVariants.{Minute, Hour, Day}
-use Rattle.sy_base.specs.Points.{minutes_of_unit}
+use Rattle.sy_base.specs.Points.{least_point, minutes_of_unit}
 
 -- the time of day that a text writes, and the unit of its form; what it leaves out is 0
 pub record TimeOfDay : Type 0 where
@@ -125,6 +125,71 @@ abbrev pub time_in : TimeUnit → ℕ → ℕ → TimeOfDay
 time_in Minute hour minute = record { form = Minute; hour = hour; minute = minute }
 time_in Hour hour minute = record { form = Hour; hour = hour; minute = 0 }
 time_in Day hour minute = midnight
+
+-- a day, by the year or the month that it is in and by how many days of that are before it
+pub record DayIn : Type 0 where
+  pub number : ℕ
+  pub before : ℕ
+
+-- the day so many days after the first of the year or month with this number: those that have gone by whole are
+-- counted off, at most so many of them, and `length_of` says how many days each has
+unfoldable pub day_in : (ℕ → ℕ) → ℕ → ℕ → ℕ → DayIn
+day_in length_of zero number days = record { number = number; before = days }
+day_in length_of (suc most) number days =
+    if nat_lt days (length_of number) then record { number = number; before = days }
+    else day_in length_of most (suc number) (days - length_of number)
+
+-- the year of the day so many days after 1900-01-01, up to 2999
+abbrev pub day_in_year : ℕ → DayIn
+day_in_year days = day_in (λ year. days_in_year (pos year)) 1099 1900 days
+
+-- the month of a day of a year
+abbrev pub day_in_month : DayIn → DayIn
+day_in_month year = day_in (days_in_month (pos year.number)) 11 1 year.before
+
+-- the date of a day of a year, at a time
+abbrev pub date_in_year : DayIn → TimeOfDay → WrittenDate
+date_in_year year time =
+    let month = day_in_month year in
+    record { year = year.number; month = month.number; day = month.before + 1; time = time }
+
+-- how many minutes after 1900-01-01T00:00 a point begins
+abbrev pub minutes_since_1900 : TimeUnit → ℤ → ℕ
+minutes_since_1900 unit point = unsigned_abs (point -ℤ least_point unit) * minutes_of_unit unit
+
+-- the date of a point, in the unit's own form
+abbrev pub date_at : TimeUnit → ℤ → WrittenDate
+date_at unit point =
+    let minutes = minutes_since_1900 unit point in
+    date_in_year (day_in_year (minutes / 1440)) (time_in unit (minutes / 60 % 24) (minutes % 60))
+
+-- the byte of a digit
+abbrev pub digit : ℕ → ℕ
+digit n = 48 + n
+
+-- a number below 100 in two digits
+abbrev pub two_digits : ℕ → List ℕ
+two_digits n = digit (n / 10) ∷ digit (n % 10) ∷ []
+
+-- a number below 10,000 in four digits
+abbrev pub four_digits : ℕ → List ℕ
+four_digits n = two_digits (n / 100) ++ two_digits (n % 100)
+
+-- what stands after the day, in a form
+abbrev pub text_of_time : TimeUnit → ℕ → ℕ → List ℕ
+text_of_time Minute hour minute = codes "T" ++ two_digits hour ++ codes ":" ++ two_digits minute
+text_of_time Hour hour minute = codes "T" ++ two_digits hour
+text_of_time Day hour minute = []
+
+-- the text of a date
+abbrev pub text_of_date : WrittenDate → List ℕ
+text_of_date date =
+    four_digits date.year ++ codes "-" ++ two_digits date.month ++ codes "-" ++ two_digits date.day
+    ++ text_of_time date.time.form date.time.hour date.time.minute
+
+-- the text of a date's point, in the unit's own form
+unfoldable pub date_text : TimeUnit → ℤ → List ℕ
+date_text unit point = text_of_date (date_at unit point)
 
 -- a date that a text of a unit may have: in no finer form, in the calendar, and from 1900 to 2999
 abbrev pub is_date : TimeUnit → WrittenDate → Bool

@@ -1,6 +1,5 @@
-pub mod Dated
+pub mod DateOfPoint
 pub mod Days
-pub mod OneText
-pub mod Reading
+pub mod Ranges
 pub mod Texts
 pub mod Years

@@ -1,12 +1,12 @@
 -- What is written is read back.
-use Rattle.std.proofs.Common.{◌≡◌, ℕ, ◌/◌, ◌%◌, ◌<◌, pos, ℤ, ◌+ℤ◌, ◌*ℤ◌, refl, ap, arith, true, false, ◌∙◌, Some, Ok, take, [], ◌∷◌}
+use Rattle.std.proofs.Common.{◌≡◌, ℕ, ◌/◌, ◌%◌, ◌<◌, pos, ℤ, ◌+ℤ◌, ◌*ℤ◌, refl, ap, arith, true, false, ◌∙◌, Some, Ok, take, List, [], ◌∷◌, ◌++◌, codes}
 use Rattle.std.specs.declared.option.Option.{Option}
 use Rattle.std.proofs.lemmas.Bool.Decides.{nat_tests}
 use Rattle.jiff_core.specs.Calendar.{days_from_civil}
 use Rattle.jiff_core.proofs.SignedLemmas.{signed_arith}
 use Rattle.sy_base.specs.declared.time.TimeUnit.{TimeUnit}
 use Rattle.sy_base.specs.declared.time.TimeUnit.TheVariants.{Minute, Hour, Day}
-use Rattle.sy_base.specs.Dates.{TimeOfDay, WrittenDate, is_finer_form, number2, number4, at_hour, at_minute, midnight, with_parts, written_date, text_length, time_in, is_day, is_time, is_year, point_of}
+use Rattle.sy_base.specs.Dates.{TimeOfDay, WrittenDate, is_finer_form, number2, number4, at_hour, at_minute, midnight, with_parts, written_date, text_length, time_in, text_of_date, two_digits, four_digits, is_day, is_time, is_year, point_of}
 use Rattle.sy_base.specs.Points.{minutes_of_unit}
 use Rattle.sy_time.specs.Date.{answer}
 
@@ -36,6 +36,27 @@ written_date-cut year month day hour minute y₁ y₂ y₃ y₄ m₁ m₂ d₁ d
     parts (number4 y₁ y₂ y₃ y₄) (number2 m₁ m₂) (number2 d₁ d₂) (at_hour (number2 h₁ h₂)) year month day _ y m d (hours (number2 h₁ h₂) hour h)
 written_date-cut year month day hour minute y₁ y₂ y₃ y₄ m₁ m₂ d₁ d₂ h₁ h₂ n₁ n₂ y m d h n Day =
     parts (number4 y₁ y₂ y₃ y₄) (number2 m₁ m₂) (number2 d₁ d₂) (Some midnight) year month day midnight y m d refl
+
+joined_parts : (y y' m m' d d' t t' : List ℕ) → y ≡ y' → m ≡ m' → d ≡ d' → t ≡ t'
+    → y ++ codes "-" ++ m ++ codes "-" ++ d ++ t ≡ y' ++ codes "-" ++ m' ++ codes "-" ++ d' ++ t'
+joined_parts y y' m m' d d' t t' same_year same_month same_day same_time = rw (same_year, same_month, same_day, same_time) refl
+
+joined_time : (h h' n n' : List ℕ) → h ≡ h' → n ≡ n' → codes "T" ++ h ++ codes ":" ++ n ≡ codes "T" ++ h' ++ codes ":" ++ n'
+joined_time h h' n n' same_hour same_minute = rw (same_hour, same_minute) refl
+
+-- and they are its text there
+pub text_of_date-cut : (year month day hour minute y₁ y₂ y₃ y₄ m₁ m₂ d₁ d₂ h₁ h₂ n₁ n₂ : ℕ)
+    → y₁ ∷ y₂ ∷ y₃ ∷ y₄ ∷ [] ≡ four_digits year → m₁ ∷ m₂ ∷ [] ≡ two_digits month → d₁ ∷ d₂ ∷ [] ≡ two_digits day
+    → h₁ ∷ h₂ ∷ [] ≡ two_digits hour → n₁ ∷ n₂ ∷ [] ≡ two_digits minute
+    → (unit : TimeUnit)
+    → take (text_length unit) (y₁ ∷ y₂ ∷ y₃ ∷ y₄ ∷ 45 ∷ m₁ ∷ m₂ ∷ 45 ∷ d₁ ∷ d₂ ∷ 84 ∷ h₁ ∷ h₂ ∷ 58 ∷ n₁ ∷ n₂ ∷ [])
+    ≡ text_of_date (record { year = year; month = month; day = day; time = time_in unit hour minute })
+text_of_date-cut year month day hour minute y₁ y₂ y₃ y₄ m₁ m₂ d₁ d₂ h₁ h₂ n₁ n₂ y m d h n Minute =
+    joined_parts _ (four_digits year) _ (two_digits month) _ (two_digits day) _ (codes "T" ++ two_digits hour ++ codes ":" ++ two_digits minute) y m d (joined_time _ (two_digits hour) _ (two_digits minute) h n)
+text_of_date-cut year month day hour minute y₁ y₂ y₃ y₄ m₁ m₂ d₁ d₂ h₁ h₂ n₁ n₂ y m d h n Hour =
+    joined_parts _ (four_digits year) _ (two_digits month) _ (two_digits day) _ (codes "T" ++ two_digits hour) y m d (ap (λ hs. codes "T" ++ hs) h)
+text_of_date-cut year month day hour minute y₁ y₂ y₃ y₄ m₁ m₂ d₁ d₂ h₁ h₂ n₁ n₂ y m d h n Day =
+    joined_parts _ (four_digits year) _ (two_digits month) _ (two_digits day) [] [] y m d refl
 
 -- a date whose first minute is a point's is read as that point
 pub point_of-first_minute : (unit : TimeUnit) (year month day minute : ℕ) (point : ℤ) → minute < 1440

@@ -1,21 +1,19 @@
 -- The years of the day numbers of dates.
-use Rattle.std.proofs.Common.{◌≡◌, ℕ, ℤ, ◌≤◌, pos, neg_ℤ, ◌+ℤ◌, ◌≤ℤ◌, ◌<ℤ◌, refl, arith}
+use Rattle.std.proofs.Common.{◌≡◌, ℕ, ℤ, ◌≤◌, pos, ◌+ℤ◌, ◌≤ℤ◌, ◌<ℤ◌, refl, arith}
 use Rattle.std.proofs.lemmas.Int.{by_lt_z}
 use Rattle.jiff_core.specs.declared.civil.date.Date.{Date}
 use Rattle.jiff_core.specs.Date.{epoch_day}
-use Rattle.jiff_core.specs.Calendar.{day_count, IsCivilDate}
+use Rattle.jiff_core.specs.Calendar.{day_count}
 use Rattle.jiff_core.proofs.SignedLemmas.{signed_arith}
 use Rattle.jiff_core.proofs.MarchLemmas.{day_count-early}
 use Rattle.jiff_core.proofs.CalendarLemmas.{days_from_civil-day_count, day_count-lt_year, day_count-later_year, day_count-day_of_year}
+use Rattle.sy_time.proofs.Days.{civil}
 
-first_of_1900 : day_count (pos 1900) 1 1 ≡ 4346386
+pub first_of_1900 : day_count (pos 1900) 1 1 ≡ 4346386
 first_of_1900 = day_count-early (pos 1900) 11899 1 1 refl (omega arith) (omega arith) (omega arith)
 
-first_of_3000 : day_count (pos 3000) 1 1 ≡ 4748153
+pub first_of_3000 : day_count (pos 3000) 1 1 ≡ 4748153
 first_of_3000 = day_count-early (pos 3000) 12999 1 1 refl (omega arith) (omega arith) (omega arith)
-
-civil : (d : Date) → IsCivilDate d.year d.month d.day
-civil d = (d.year_in, d.month_in, d.day_in)
 
 -- a day from the first of 1900 on is of no year before
 pub year-not_before : (d : Date) (day : ℕ) → epoch_day d +ℤ pos 4371587 ≡ pos day → 4346020 ≤ day → pos 1900 ≤ℤ d.year
@@ -37,16 +35,3 @@ year-not_after d day value greatest =
     by_lt_z (pos 2999) d.year
     (λ late. absurd (omega (arith, signed_arith, days_from_civil-day_count d.year d.month d.day, day_count-day_of_year d.year d.month d.day d.day_in.0, later_than_2999 d.year late)))
     (λ early. early)
-
--- a day of the year 1900 or later is no earlier than the first of 1900
-pub epoch_day-not_before : (d : Date) → pos 1900 ≤ℤ d.year → neg_ℤ (pos 25567) ≤ℤ epoch_day d
-epoch_day-not_before d late =
-    let first : 4346386 ≤ day_count d.year 1 1 = by_lt_z (pos 1900) d.year
-    (λ later. omega (arith, signed_arith, first_of_1900, day_count-later_year (pos 1900) d.year (omega (arith, signed_arith)) later))
-    (λ same. let is : d.year ≡ pos 1900 = omega (arith, signed_arith) in rw is (omega (arith, first_of_1900))) in
-    omega (arith, signed_arith, days_from_civil-day_count d.year d.month d.day, day_count-day_of_year d.year d.month d.day d.day_in.0)
-
--- and one of the year 2999 or earlier is no later than its last
-pub epoch_day-not_after : (d : Date) → d.year ≤ℤ pos 2999 → epoch_day d ≤ℤ pos 376199
-epoch_day-not_after d early =
-    omega (arith, signed_arith, first_of_3000, days_from_civil-day_count d.year d.month d.day, day_count-lt_year d.year d.month d.day (pos 3000) 1 1 (civil d) (omega arith) (omega (arith, signed_arith)))

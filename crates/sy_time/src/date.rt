@@ -1,4 +1,4 @@
-ghost use Rattle.std.specs.Prelude.{◌≡◌, ◌<◌, ◌↔◌, ℤ, pos, ◌+ℤ◌, ◌*ℤ◌, IfSome, IsSome, IsTrue, IfOk, Ok};
+ghost use Rattle.std.specs.Prelude.{◌≡◌, ◌<◌, ◌↔◌, ℤ, pos, ◌+ℤ◌, ◌*ℤ◌, IfOk, IfSome, IsSome, IsTrue, Ok};
 ghost use Rattle.jiff_core.specs.Calendar.{days_from_civil};
 ghost use Rattle.jiff_core.specs.Date.{epoch_day};
 ghost use Rattle.sy_base.specs.Dates as dates;
@@ -94,9 +94,9 @@ fn dated_point(unit: TimeUnit, date: &WrittenDate) -> Result<Point, DateFault>
 /// The point of what a text of a date writes. A text in the form of a coarser unit means its first
 /// point. `Shape` comes first, then `TooFine`, then `NoSuchDay`, then `OutOfRange`.
 pub fn read_date(unit: TimeUnit, bytes: &[u8]) -> Result<Point, DateFault>
-    ensures value { result ≡ date_of unit bytes.now }
+    ensures point { result ≡ date_of unit bytes.now }
     ensures text { (point : ℤ) → (result ≡ Ok point) ↔ IsDateText unit bytes.now point }
-    ensures range { IfOk result (λ point. IsDated unit point) }
+    ensures dated { IfOk result (IsDated unit) }
 {
     let Some(date) = read_written(bytes) else {
         return Err(DateFault::Shape);

@@ -1,5 +1,5 @@
-ghost use Rattle.std.specs.Prelude.{◌≡◌, ◌<◌, IfSome, Some};
-ghost use Rattle.sy_base.specs.Dates.{value_of_digit, number2, number4};
+ghost use Rattle.std.specs.Prelude.{◌≡◌, ◌<◌, [], ◌∷◌, IfSome, Some};
+ghost use Rattle.sy_base.specs.Dates.{value_of_digit, number2, number4, digit, two_digits, four_digits};
 
 fn read_digit(byte: u8) -> Option<u8>
     ensures { result ≡ value_of_digit byte }
@@ -31,17 +31,19 @@ pub(crate) fn read_four(a: u8, b: u8, c: u8, d: u8) -> Option<u16>
     Some(100 * high as u16 + low as u16)
 }
 
-fn write_digit(digit: u8) -> u8
-    requires { digit < 10 }
-    ensures { value_of_digit result ≡ Some digit }
+fn write_digit(value: u8) -> u8
+    requires { value < 10 }
+    ensures read { value_of_digit result ≡ Some value }
+    ensures written { result ≡ digit value }
 {
-    b'0' + digit
+    b'0' + value
 }
 
 /// The two digits of a number.
 pub(crate) fn write_two(number: u8) -> (u8, u8)
     requires { number < 100 }
-    ensures { number2 result.0 result.1 ≡ Some number }
+    ensures read { number2 result.0 result.1 ≡ Some number }
+    ensures written { result.0 ∷ result.1 ∷ [] ≡ two_digits number }
 {
     (write_digit(number / 10), write_digit(number % 10))
 }
@@ -49,7 +51,8 @@ pub(crate) fn write_two(number: u8) -> (u8, u8)
 /// The four digits of a number.
 pub(crate) fn write_four(number: u16) -> (u8, u8, u8, u8)
     requires { number < 10000 }
-    ensures { number4 result.0 result.1 result.2 result.3 ≡ Some number }
+    ensures read { number4 result.0 result.1 result.2 result.3 ≡ Some number }
+    ensures written { result.0 ∷ result.1 ∷ result.2 ∷ result.3 ∷ [] ≡ four_digits number }
 {
     let (a, b) = write_two((number / 100) as u8);
     let (c, d) = write_two((number % 100) as u8);

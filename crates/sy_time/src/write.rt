@@ -1,6 +1,6 @@
-ghost use Rattle.std.specs.Prelude.{◌≡◌, ℕ, ◌+◌, ◌*◌, ◌<◌, ◌≤◌, pos, neg_ℤ, ◌+ℤ◌, ◌*ℤ◌, ◌≤ℤ◌, take, drop, length, List, Some, Ok};
+ghost use Rattle.std.specs.Prelude.{◌≡◌, ℕ, ◌+◌, ◌*◌, ◌<◌, ◌≤◌, pos, neg_ℤ, ◌+ℤ◌, ◌*ℤ◌, ◌≤ℤ◌, take, drop, Some, Ok};
 ghost use Rattle.jiff_core.specs.Date.{epoch_day};
-ghost use Rattle.sy_base.specs.Dates.{written_date, text_length, time_in};
+ghost use Rattle.sy_base.specs.Dates.{written_date, text_length, time_in, text_of_date, date_text};
 ghost use Rattle.sy_base.specs.Points.{minutes_of_unit, IsDated};
 ghost use Rattle.sy_base.specs.declared.time.TimeUnit.{TimeUnit};
 ghost use Rattle.sy_time.specs.Date.{date_of};
@@ -68,8 +68,15 @@ fn minute_text(year: u16, month: u8, day: u8, hour: u8, minute: u8) -> [u8; 16]
     requires day { day < 100 }
     requires hour { hour < 100 }
     requires minute { minute < 100 }
-    ensures { (unit : TimeUnit) → written_date (take (text_length unit) result)
+    ensures read { (unit : TimeUnit) → written_date (take (text_length unit) result)
         ≡ Some (record { year = year; month = month; day = day; time = time_in unit hour minute }) }
+    ensures written { (unit : TimeUnit) → take (text_length unit) result
+        ≡ text_of_date (record {
+          year = year;
+          month = month;
+          day = day;
+          time = time_in unit hour minute;
+        }) }
 {
     let (y1, y2, y3, y4) = write_four(year);
     let (m1, m2) = write_two(month);
@@ -106,10 +113,9 @@ fn copy_front(text: &[u8; 16], length: usize, buf: &mut [u8; 16])
 pub fn write_date(unit: TimeUnit, point: Point, buf: &mut [u8; 16]) -> usize
     requires { IsDated unit point }
     ensures length { result ≡ text_length unit }
+    ensures written { take result buf.new ≡ date_text unit point }
+    // So the text is read back as the point.
     ensures text { date_of unit (take result buf.new) ≡ Ok point }
-    // No other text of this length is read as the point, so each byte is told.
-    ensures only { (other : List ℕ) → length other ≡ text_length unit
-        → date_of unit other ≡ Ok point → other ≡ take result buf.new }
     ensures rest { drop result buf.new ≡ drop result buf.old }
 {
     let (day, minute) = day_and_minute(unit, point);

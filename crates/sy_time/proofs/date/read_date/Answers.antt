@@ -1,5 +1,6 @@
-use Rattle.sy_time.proofs.Dated.{point_or_fault-range}
+use Rattle.std.proofs.Common.{rules}
+use Rattle.sy_time.proofs.Ranges.{IsDated-point_or_fault}
 use Rattle.sy_time.proofs.date.read_date.Goals as goal
 
-pub returns-clause-range : goal.returns-clause-range
-returns-clause-range c = rw c.dated_point.ensures (point_or_fault-range c.args.unit c.in-Some.date)
+pub returns-clause-dated : goal.returns-clause-dated
+returns-clause-dated c = search (rules, IsDated-point_or_fault)
