@@ -3,6 +3,7 @@ pub mod Filling
 pub mod LineReading
 pub mod Lines
 pub mod Outside
+pub mod Planned
 pub mod Points
 pub mod Reader
 pub mod Reading

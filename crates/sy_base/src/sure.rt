@@ -1,4 +1,4 @@
-ghost use Rattle.std.specs.Prelude.{◌≡◌, ◌<◌, ◌≤◌, true, Some, None, length, take, [], find, nat_eq, unwrap_or, IfOk};
+ghost use Rattle.std.specs.Prelude.{◌≡◌, ◌<◌, ◌≤◌, ◌-◌, min, true, Some, None, length, take, [], find, nat_eq, unwrap_or, IfOk};
 ghost use Rattle.std.specs.Option.{option_copied};
 ghost use Rattle.std.specs.Cmp.Lexicographic.{pointwise};
 ghost use Rattle.sy_base.specs.Outside.{StandsAt};
@@ -21,6 +21,7 @@ pub(crate) fn copy_front(from: &[u8], most: usize, buf: &mut [u8]) -> usize
     ensures room { result ≤ length buf.new }
     ensures same { take result buf.new ≡ take result from.now }
     ensures some { result ≡ 0 → 0 < length buf.new → 0 < most → length from.now ≡ 0 }
+    ensures count { result ≡ min most (min (length from.now) (length buf.new)) }
 {
     let count = most.min(from.len()).min(buf.len());
     buf[..count].copy_from_slice(&from[..count]);
@@ -29,7 +30,8 @@ pub(crate) fn copy_front(from: &[u8], most: usize, buf: &mut [u8]) -> usize
 
 // Copies the bytes of a file from there on, as far as there is room.
 pub(crate) fn copy_part(file: &[u8], from: u64, buf: &mut [u8]) -> usize
-    ensures { StandsAt file.now from result buf.new }
+    ensures stands { StandsAt file.now from result buf.new }
+    ensures count { result ≡ min (length file.now - from) (length buf.new) }
 {
     let from = from.min(file.len() as u64) as usize;
     copy_front(&file[from..], usize::MAX, buf)

@@ -1,5 +1,6 @@
 use crate::{
-    LineFault, LineReader, List, Named, SureFiles, SureSink, SureSource, Text, read_file, write_all,
+    Files, LineFault, LineReader, List, MemFiles, MemSink, MemSource, Memory, Named, Sink, Source,
+    SureFiles, SureSink, SureSource, Text, read_file, write_all,
 };
 use std::alloc::Global;
 use std::test::Fail;
@@ -64,5 +65,62 @@ fn a_file_is_read_whole(rt: HostRuntime) -> Result<(), Fail> {
     let mut sink = SureSink::new(rt.alloc(), 3)?;
     assert!(rt; write_all(&mut sink, b"kept").is_ok());
     assert_eq!(rt; sink.bytes(), b"kep".as_slice());
+    Ok(())
+}
+
+#[test]
+fn a_sink_takes_its_room_when_it_is_made(rt: HostRuntime) -> Result<(), Fail> {
+    let mut sink = MemSink::new(rt.alloc(), 3, List::new(rt.alloc()))?;
+    assert_eq!(rt; sink.write(b"kept"), Ok(3));
+    assert_eq!(rt; sink.bytes(), b"kep".as_slice());
+    Ok(())
+}
+
+// A list of one number.
+fn only(alloc: Global, number: u64) -> Result<List<u64>, Memory> {
+    let mut list = List::new(alloc);
+    list.push(number)?;
+    Ok(list)
+}
+
+// Files of which one has the name `deed` and three bytes.
+fn deed_files(alloc: Global, failing: List<u64>) -> Result<MemFiles, Memory> {
+    let mut files = List::new(alloc);
+    files.push(Named {
+        name: Text::new(alloc, b"deed")?,
+        bytes: Text::new(alloc, b"abc")?,
+    })?;
+    Ok(MemFiles::new(files, failing))
+}
+
+#[test]
+fn objects_in_memory_fail_as_planned(rt: HostRuntime) -> Result<(), Fail> {
+    let alloc = rt.alloc();
+    let mut source = MemSource::new(Text::new(alloc, b"abcde")?, 2, only(alloc, 2)?);
+    let mut sink = MemSink::new(alloc, 3, only(alloc, 2)?)?;
+    let mut files = deed_files(alloc, only(alloc, 2)?)?;
+    let deed = Text::new(alloc, b"deed")?;
+    let missing = Text::new(alloc, b"none")?;
+    let calls: [(
+        Option<usize>,
+        &[u8],
+        Option<usize>,
+        &Text,
+        u64,
+        Option<usize>,
+    ); 5] = [
+        (Some(2), b"ab", Some(2), &deed, 0, Some(3)),
+        (None, b"c", None, &deed, 0, None),
+        (Some(2), b"cd", Some(1), &deed, 1, Some(2)),
+        (Some(1), b"d", None, &missing, 0, None),
+        (Some(0), b"", Some(0), &deed, 3, Some(0)),
+    ];
+    let mut buf = [0; 4];
+    for (given, piece, taken, name, from, read) in calls {
+        assert_eq!(rt; source.read(&mut buf).ok(), given);
+        assert_eq!(rt; sink.write(piece).ok(), taken);
+        assert_eq!(rt; files.read(name, from, &mut buf).ok(), read);
+    }
+    assert_eq!(rt; sink.bytes(), b"abc".as_slice());
     Ok(())
 }
