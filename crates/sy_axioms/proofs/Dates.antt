@@ -123,3 +123,9 @@ pub reached_is_passed : (unit : TimeUnit) (i : ℕ) (point : ℤ) → i ≤ 8 �
 reached_is_passed Minute i point le r = let l = r.low in let h : point ≤ℤ pos (2 ^ 40) = let h = r.high in omega (arith, ints) in to_z-of_z w64 point (search (rules, ints))
 reached_is_passed Hour i point le r = let l = r.low in let h : point ≤ℤ pos (2 ^ 40) = let h = r.high in omega (arith, ints) in to_z-of_z w64 point (search (rules, ints))
 reached_is_passed OneDay i point le r = let l = r.low in let h : point ≤ℤ pos (2 ^ 40) = let h = r.high in omega (arith, ints) in to_z-of_z w64 point (search (rules, ints))
+
+-- so is the point after a date
+pub next_is_passed : (unit : TimeUnit) (point : ℤ) → IsDated unit point → to_z w64 (of_z w64 (to_z w64 (of_z w64 point) +ℤ pos 1)) ≡ point +ℤ pos 1
+next_is_passed Minute point d = rw (dated_is_passed Minute point d) (let l = d.not_before in let h = d.not_after in to_z-of_z w64 (point +ℤ pos 1) (search (rules, ints)))
+next_is_passed Hour point d = rw (dated_is_passed Hour point d) (let l = d.not_before in let h = d.not_after in to_z-of_z w64 (point +ℤ pos 1) (search (rules, ints)))
+next_is_passed OneDay point d = rw (dated_is_passed OneDay point d) (let l = d.not_before in let h = d.not_after in to_z-of_z w64 (point +ℤ pos 1) (search (rules, ints)))

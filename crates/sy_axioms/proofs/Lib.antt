@@ -1,5 +1,8 @@
 pub mod Dates
 pub mod Equal
+pub mod GoesOn
+pub mod LastDay
+pub mod Members
 pub mod Mentions
 pub mod OneRound
 pub mod Tests

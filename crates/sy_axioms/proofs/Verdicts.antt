@@ -82,11 +82,13 @@ module _ (deed : Deed) where
   sound-any : (ps : List Prop) → is_sound_prop deed (Props.Any ps) ≡ list_all (λ b. b) (map (is_sound_prop deed) ps)
   sound-any ps = ap (is_sound_prop deed) (sym (rolls-Any ps)) ∙ fold-roll-Prop Bool (is_sound_step deed) (P.Any ps)
 
-  pub sound_part_of_all : (ps : List Prop) (i : ℕ) (part : Prop) → is_sound_prop deed (Props.All ps) ≡ true → i < length ps → part ≡ get_or ps i part → is_sound_prop deed part ≡ true
-  sound_part_of_all ps i part h = passes_at (is_sound_prop deed) ps i part (sym (sound-all ps ∙ list_all-map (λ b. b) (is_sound_prop deed) ps) ∙ h)
+  pub sound_part_of_all : (p : Prop) (ps items : List Prop) (i : ℕ) (part : Prop) → is_sound_prop deed p ≡ true → p ≡ Props.All ps → items ≡ ps → i < length items → part ≡ get_or items i part → is_sound_prop deed part ≡ true
+  sound_part_of_all p ps items i part h e is lt at =
+      passes_at (is_sound_prop deed) items i part (ap (list_all (is_sound_prop deed)) is ∙ (sym (ap (is_sound_prop deed) e ∙ (sound-all ps ∙ list_all-map (λ b. b) (is_sound_prop deed) ps)) ∙ h)) lt at
 
-  pub sound_part_of_any : (ps : List Prop) (i : ℕ) (part : Prop) → is_sound_prop deed (Props.Any ps) ≡ true → i < length ps → part ≡ get_or ps i part → is_sound_prop deed part ≡ true
-  sound_part_of_any ps i part h = passes_at (is_sound_prop deed) ps i part (sym (sound-any ps ∙ list_all-map (λ b. b) (is_sound_prop deed) ps) ∙ h)
+  pub sound_part_of_any : (p : Prop) (ps items : List Prop) (i : ℕ) (part : Prop) → is_sound_prop deed p ≡ true → p ≡ Props.Any ps → items ≡ ps → i < length items → part ≡ get_or items i part → is_sound_prop deed part ≡ true
+  sound_part_of_any p ps items i part h e is lt at =
+      passes_at (is_sound_prop deed) items i part (ap (list_all (is_sound_prop deed)) is ∙ (sym (ap (is_sound_prop deed) e ∙ (sound-any ps ∙ list_all-map (λ b. b) (is_sound_prop deed) ps)) ∙ h)) lt at
 
   -- of a proposition with two dates, the second is sound
   pub sound_end_of_within : (e : Ev) (from to : DateTerm) → is_sound_prop deed (Props.Within e from to) ≡ true → is_sound_date deed to ≡ true

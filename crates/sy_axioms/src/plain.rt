@@ -1,5 +1,6 @@
 ghost use Rattle.std.specs.Prelude.{◌≡◌, ◌+ℤ◌, ℕ, suc, pos, false, Some, List, IfOk, slice_get, length, ◌<◌};
 ghost use Rattle.sy_core.specs.declared.deed.Deed.{Deed};
+ghost use Rattle.sy_core.specs.declared.event.Ev.TheVariants.{Inner};
 ghost use Rattle.sy_core.specs.declared.happening.Happening.{Happening};
 ghost use Rattle.sy_core.specs.declared.proposition.Prop.{Prop};
 ghost use Rattle.sy_core.specs.Propositions.{verdict_at};
@@ -86,11 +87,11 @@ impl Plain {
         ensures none { (deed : Deed) (narrative : List Happening) → StandsFor self.now deed narrative 0
             → result ≡ false }
         ensures last { (deed : Deed) (narrative : List Happening) (n : ℕ) → StandsFor self.now deed narrative (suc n)
-            → result ≡ (moment_at deed narrative n).seen (Ev.Inner kind target) }
+            → result ≡ (moment_at deed narrative n).seen (Inner kind target) }
     {
-        match self.days.items().last() {
+        match self.days.items().split_last() {
             None => false,
-            Some(day) => day.happens(kind, target),
+            Some((day, _)) => day.happens(kind, target),
         }
     }
 

@@ -2,7 +2,7 @@ use Rattle.std.proofs.Common.{rules, ◌≡◌, true, List, [], ◌∷◌, ◌++
 use Rattle.std.proofs.lemmas.Grind.{common_steps}
 use Rattle.sy_core.specs.Propositions.{verdict_in, lesser, greater, least, greatest}
 use Rattle.sy_core.specs.declared.proposition.Prop.TheVariants as Props
-use Rattle.sy_core.proofs.proposition.Prop.TheLaws.{the_size}
+use Rattle.sy_core.specs.declared.proposition.Prop.TheFolds.{the_lemmas}
 use Rattle.sy_core.specs.Soundness.{is_sound_prop}
 use Rattle.sy_axioms.specs.Days.{moment_of, moments_to}
 use Rattle.sy_axioms.proofs.Verdicts.{sound_part_of_all, sound_part_of_any, sound_end_of_within, sound_end_of_occurs, least_goes_on, greatest_goes_on, lesser-true, greater-false, verdict-all, verdict-any, verdict-within, verdict-occurs}
@@ -10,15 +10,15 @@ use Rattle.sy_axioms.proofs.verdict.+verdict.Goals as goal
 
 pub verdict-requires-in-loop-part : goal.verdict-requires-in-loop-part
 verdict-requires-in-loop-part t c =
-    let parts = c.as_slice-part-items.result.now in
-    let whole = subst (λ p. is_sound_prop c.args.deed.now p ≡ true) (c.in-All.is ∙ ap Props.All (sym c.as_slice-part-items.ensures)) c.requires.sound in
-    (first_of (search the_size, search the_size depth 12, search (rules, the_size) depth 12), (c.requires.ready, sound_part_of_all c.args.deed.now parts c.loop-part.part-index c.part-item.result whole c.loop-part-test.true c.part-item.is))
+    (first_of (search (rules, the_lemmas), grind (arith, the_lemmas), search (rules, the_lemmas, common_steps)),
+    (c.requires.ready,
+    sound_part_of_all c.args.deed.now c.args.prop.now c.in-All.parts c.as_slice-part-items.result.now c.loop-part.part-index c.part-item.result c.requires.sound c.in-All.is c.as_slice-part-items.ensures c.loop-part-test.true c.part-item.is))
 
 pub verdict-requires-in-loop-part-2 : goal.verdict-requires-in-loop-part-2
 verdict-requires-in-loop-part-2 t c =
-    let parts = c.as_slice-part-items-in-Any.result.now in
-    let whole = subst (λ p. is_sound_prop c.args.deed.now p ≡ true) (c.in-Any.is ∙ ap Props.Any (sym c.as_slice-part-items-in-Any.ensures)) c.requires.sound in
-    (first_of (search the_size, search the_size depth 12, search (rules, the_size) depth 12), (c.requires.ready, sound_part_of_any c.args.deed.now parts c.loop-part-2.part-index c.part-item-in-loop-part-2.result whole c.loop-part-2-test.true c.part-item-in-loop-part-2.is))
+    (first_of (search (rules, the_lemmas), grind (arith, the_lemmas), search (rules, the_lemmas, common_steps)),
+    (c.requires.ready,
+    sound_part_of_any c.args.deed.now c.args.prop.now c.in-Any.parts c.as_slice-part-items-in-Any.result.now c.loop-part-2.part-index c.part-item-in-loop-part-2.result c.requires.sound c.in-Any.is c.as_slice-part-items-in-Any.ensures c.loop-part-2-test.true c.part-item-in-loop-part-2.is))
 
 pub within-requires-clause-to : goal.within-requires-clause-to
 within-requires-clause-to t c =
