@@ -18,22 +18,9 @@ same_last (w ∷ ws) (z ∷ zs) x y h =
     let e : w ≡ z = cc in
     ((λ j. e j ∷ r.0 j), r.1)
 
--- no list ends in an item and has none
-pub none_is_not_one : {X : Type 0} (xs : List X) (x : X) → [] ≡ xs ++ x ∷ [] → ⊥
-none_is_not_one xs x h = let l = ap length h in let e = length-append xs (x ∷ []) in absurd (omega arith)
-
 module _ (deed : Deed) (narrative : List Happening) (n : ℕ) (days before : List Day) (now : Day) (is : days ≡ before ++ now ∷ []) where
   split : map moment_of before ++ moment_of now ∷ [] ≡ map moment_of days
   split = sym (ap (map moment_of) is ∙ map-append moment_of before (now ∷ []))
 
   pub last_is : map moment_of days ≡ chronicle deed narrative (suc n) → (map moment_of before ≡ chronicle deed narrative n) × (moment_of now ≡ moment_at deed narrative n)
   last_is told = same_last (map moment_of before) (chronicle deed narrative n) (moment_of now) (moment_at deed narrative n) (split ∙ told)
-
-  -- where a day was kept, some point was evaluated
-  pub not_at_start : map moment_of days ≡ chronicle deed narrative 0 → ⊥
-  not_at_start told = none_is_not_one (map moment_of before) (moment_of now) (sym (split ∙ told))
-
--- where none was, no point was
-pub not_after_start : (deed : Deed) (narrative : List Happening) (n : ℕ) (days : List Day) → length days ≡ 0 → map moment_of days ≡ chronicle deed narrative (suc n) → ⊥
-not_after_start deed narrative n [] h told = none_is_not_one (chronicle deed narrative n) (moment_at deed narrative n) told
-not_after_start deed narrative n (day ∷ days) h told = absurd (omega arith)

@@ -12,3 +12,6 @@ mod step;
 mod verdict;
 
 pub use plain::Plain;
+
+#[cfg(test)]
+mod tests;

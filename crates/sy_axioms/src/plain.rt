@@ -44,6 +44,7 @@ impl Plain {
         requires { IsSound deed.now }
         ensures start { IfOk result (λ plain. (narrative : List Happening) → StandsFor plain deed.now narrative 0) }
         ensures made { IfOk result (λ plain. IsMadeFor plain deed.now) }
+        ensures point { IfOk result (λ plain. next_point plain ≡ deed.now.start) }
     {
         Ok(Plain {
             alloc,
