@@ -20,7 +20,7 @@ use Rattle.sy_core.specs.Soundness.{is_duration_of, is_sound_base, is_sound_date
 use Rattle.sy_axioms.specs.declared.day.Day.{Day}
 use Rattle.sy_axioms.specs.Days.{moment_of, moments_to}
 use Rattle.sy_axioms.specs.Ready.{IsReady}
-use Rattle.sy_axioms.proofs.Tests.{first, second}
+use Rattle.sy_axioms.proofs.Passing.{first, second}
 
 -- how many of a unit the days of 400 years have
 abbrev pub span : TimeUnit → ℕ

@@ -5,5 +5,6 @@ pub mod LastDay
 pub mod Members
 pub mod Mentions
 pub mod OneRound
-pub mod Tests
+pub mod Passing
+pub mod SoundPayment
 pub mod Verdicts

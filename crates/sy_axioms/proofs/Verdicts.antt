@@ -17,7 +17,7 @@ use Rattle.sy_core.specs.declared.deed.Deed.{Deed}
 use Rattle.sy_core.specs.Moments.{Moment}
 use Rattle.sy_core.specs.Propositions.{lesser, greater, least, greatest, verdict_step, verdict_in}
 use Rattle.sy_core.specs.Soundness.{is_sound_event, is_sound_date, is_sound_situation, is_sound_step, is_sound_prop}
-use Rattle.sy_axioms.proofs.Tests.{second, passes_at}
+use Rattle.sy_axioms.proofs.Passing.{second, passes_at}
 
 lesser_assoc : (a b c : Verdict) → lesser (lesser a b) c ≡ lesser a (lesser b c)
 lesser_assoc False b c = refl

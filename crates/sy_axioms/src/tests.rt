@@ -1,4 +1,4 @@
-ghost use Rattle.std.specs.Prelude.{◌≡◌, ◌≤ℤ◌, pos, length, IfOk};
+ghost use Rattle.std.specs.Prelude.{◌≡◌, ◌≤ℤ◌, pos, [], length, IfOk};
 ghost use Rattle.sy_core.specs.Soundness.{IsSound};
 ghost use Rattle.sy_axioms.specs.Standing.{IsMadeFor};
 
@@ -12,7 +12,9 @@ use sy_core::{
 };
 
 /// `paid` happens before the date.
-fn paid_before(alloc: Global, date: Point) -> Prop {
+fn paid_before(alloc: Global, date: Point) -> Prop
+    ensures { result ≡ Prop.Before (Ev.Outer 0 []) (record { base = Base.Fixed date; plus = [] }) }
+{
     Prop::Before(
         Ev::Outer(0, List::new(alloc)),
         DateTerm {

@@ -10,13 +10,13 @@ use Rattle.sy_axioms.proofs.verdict.+verdict.Goals as goal
 
 pub verdict-requires-in-loop-part : goal.verdict-requires-in-loop-part
 verdict-requires-in-loop-part t c =
-    (first_of (search (rules, the_lemmas), grind (arith, the_lemmas), search (rules, the_lemmas, common_steps)),
+    (search (rules, the_lemmas),
     (c.requires.ready,
     sound_part_of_all c.args.deed.now c.args.prop.now c.in-All.parts c.as_slice-part-items.result.now c.loop-part.part-index c.part-item.result c.requires.sound c.in-All.is c.as_slice-part-items.ensures c.loop-part-test.true c.part-item.is))
 
 pub verdict-requires-in-loop-part-2 : goal.verdict-requires-in-loop-part-2
 verdict-requires-in-loop-part-2 t c =
-    (first_of (search (rules, the_lemmas), grind (arith, the_lemmas), search (rules, the_lemmas, common_steps)),
+    (search (rules, the_lemmas),
     (c.requires.ready,
     sound_part_of_any c.args.deed.now c.args.prop.now c.in-Any.parts c.as_slice-part-items-in-Any.result.now c.loop-part-2.part-index c.part-item-in-loop-part-2.result c.requires.sound c.in-Any.is c.as_slice-part-items-in-Any.ensures c.loop-part-2-test.true c.part-item-in-loop-part-2.is))
 

@@ -5,7 +5,7 @@ use Rattle.sy_base.specs.Points.{added}
 use Rattle.sy_core.specs.Moments.{all_added}
 use Rattle.sy_core.specs.Soundness.{is_duration_of}
 use Rattle.sy_axioms.proofs.Dates.{IsReached, added_is_reached, reached_is_passed}
-use Rattle.sy_axioms.proofs.Tests.{passes_within}
+use Rattle.sy_axioms.proofs.Passing.{passes_within}
 use Rattle.sy_axioms.proofs.verdict.add_all.Goals as goal
 
 none : Duration
