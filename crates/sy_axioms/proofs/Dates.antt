@@ -54,7 +54,6 @@ measured unit d h = not_finer (is_finer d.measure unit) (nat_le d.count (greates
     not_finer true within h p = cc
     not_finer false within h p = (refl, p h)
 
-
 units_within : (unit : TimeUnit) (measure : Measure) (count : ℕ) → is_finer measure unit ≡ false → count ≤ greatest_count measure → count * (minutes_of_measure measure / minutes_of_unit unit) ≤ span unit
 units_within Minute Minutes count f le = omega arith
 units_within Minute Hours count f le = omega arith
@@ -103,9 +102,9 @@ module _ (deed : Deed) (before : List Day) (now : Day) (ready : IsReady deed bef
   base_is_dated : (base : Base) (point : ℤ) → is_sound_base deed base ≡ true → base_value base (moments_to before now) ≡ Some point → IsDated deed.unit point
   base_is_dated (Fixed date) point sound h =
       subst (IsDated deed.unit) (cc) (record {
-      not_before = int_le_of _ _ (first (int_le (least_point deed.unit) date) (int_le date (greatest_point deed.unit)) sound);
-      not_after = int_le_of _ _ (second (int_le (least_point deed.unit) date) (int_le date (greatest_point deed.unit)) sound);
-    })
+        not_before = int_le_of _ _ (first (int_le (least_point deed.unit) date) (int_le date (greatest_point deed.unit)) sound);
+        not_after = int_le_of _ _ (second (int_le (least_point deed.unit) date) (int_le date (greatest_point deed.unit)) sound);
+      })
   base_is_dated (First e) point sound h = first_dated e before point ready.before_dated h
 
   -- what a sound date term begins with is a date

@@ -1,5 +1,5 @@
 -- A plain evaluator goes on by one point.
-use Rattle.std.proofs.Common.{◌≡◌, ℕ, zero, suc, ℤ, pos, ◌+◌, ◌+ℤ◌, ◌<◌, Bool, true, false, ◌&&◌, List, [], ◌∷◌, ◌++◌, map, Option, Some, None, option_map, unwrap_or, slice_get, refl, sym, ◌∙◌, ap, arith, int_eq}
+use Rattle.std.proofs.Common.{◌≡◌, ℕ, zero, suc, ℤ, pos, ◌+◌, ◌+ℤ◌, Bool, true, ◌&&◌, List, [], ◌∷◌, ◌++◌, map, Option, Some, None, option_map, unwrap_or, slice_get, refl, sym, ◌∙◌, ap, arith, int_eq}
 use Rattle.std.proofs.Math.Path.{fun_ext}
 use Rattle.std.proofs.lemmas.Int.{ints}
 use Rattle.std.proofs.lemmas.Bool.Decides.{Decides-int_eq, Decides-and}
@@ -19,8 +19,8 @@ use Rattle.sy_core.specs.declared.happening.Happening.{Happening}
 use Rattle.sy_core.specs.Matching.{matches}
 use Rattle.sy_core.specs.Moments.{Moment}
 use Rattle.sy_core.specs.Conditions.{count_events}
-use Rattle.sy_core.specs.Rounds.{Among, rounds}
-use Rattle.sy_core.specs.Chronicle.{assuming, fires_now, internal_events, at_point, exerts, stands, states_from, states_after, states_next, position_after, first_state, chronicle, state_at, moment_at}
+use Rattle.sy_core.specs.Rounds.{rounds}
+use Rattle.sy_core.specs.Chronicle.{assuming, fires_now, internal_events, at_point, exerts, stands, states_from, states_next, position_after, first_state, chronicle, state_at, moment_at}
 use Rattle.sy_core.specs.Tables.{states_of}
 use Rattle.sy_axioms.specs.declared.day.Day.{Day}
 use Rattle.sy_axioms.specs.declared.day.States.{States}

@@ -1,9 +1,8 @@
 -- The last of the days that stand for a chronicle is its last moment.
-use Rattle.std.proofs.Common.{◌≡◌, ℕ, ℤ, suc, ◌+◌, List, [], ◌∷◌, ◌++◌, length, map, refl, sym, ◌∙◌, ap, arith, length-append}
+use Rattle.std.proofs.Common.{◌≡◌, ℕ, suc, List, [], ◌∷◌, ◌++◌, length, map, refl, sym, ◌∙◌, ap, arith, length-append}
 use Rattle.std.proofs.lemmas.List.{map-append}
 use Rattle.sy_core.specs.declared.deed.Deed.{Deed}
 use Rattle.sy_core.specs.declared.happening.Happening.{Happening}
-use Rattle.sy_core.specs.Moments.{Moment}
 use Rattle.sy_core.specs.Chronicle.{chronicle, moment_at}
 use Rattle.sy_axioms.specs.declared.day.Day.{Day}
 use Rattle.sy_axioms.specs.Days.{moment_of}

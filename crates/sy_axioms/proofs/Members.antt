@@ -1,5 +1,5 @@
 -- Tests over lists by their members.
-use Rattle.std.proofs.Common.{◌≡◌, Bool, true, false, ◌||◌, ◌&&◌, List, [], ◌∷◌, ◌⊎◌, inl, inr, map, refl, sym, ◌∙◌, ap, ℤ, int_eq}
+use Rattle.std.proofs.Common.{◌≡◌, Bool, true, false, ◌||◌, ◌&&◌, List, [], ◌∷◌, inl, inr, map, refl, sym, ◌∙◌, ap}
 use Rattle.std.proofs.Math.Bool.{or-true}
 use Rattle.std.specs.List.{list_any, filter}
 use Rattle.sy_core.specs.Rounds.{Among}

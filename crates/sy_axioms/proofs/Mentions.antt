@@ -1,5 +1,5 @@
 -- What a proposition with parts mentions, by what the parts mention.
-use Rattle.std.proofs.Common.{◌≡◌, ℕ, suc, ◌+◌, ◌<◌, Bool, true, false, ◌||◌, List, [], ◌∷◌, ◌++◌, length, map, drop, get_or, refl, sym, ◌∙◌, ap, subst, drop-cons, ◌≤◌, ◌⊎◌, inl, inr, arith}
+use Rattle.std.proofs.Common.{◌≡◌, ℕ, suc, ◌<◌, Bool, true, false, ◌||◌, List, [], ◌∷◌, length, map, drop, get_or, refl, sym, ◌∙◌, ap, subst, drop-cons, ◌≤◌, ◌⊎◌, inl, inr, arith}
 use Rattle.std.specs.List.{list_any}
 use Rattle.std.proofs.lemmas.Grind.{common_steps}
 use Rattle.std.proofs.lemmas.List.Folds.{list_any-append}
@@ -8,7 +8,7 @@ use Rattle.sy_core.specs.declared.proposition.Prop.{Prop}
 use Rattle.sy_core.specs.declared.proposition.Prop.TheVariants as Props
 use Rattle.sy_core.specs.declared.proposition.Prop.TheVariants.{rolls-All, rolls-Any}
 use Rattle.sy_core.specs.declared.proposition.Prop.TheOpen as P
-use Rattle.sy_core.specs.declared.proposition.Prop.TheFolds.{fold-Prop, fold-roll-Prop}
+use Rattle.sy_core.specs.declared.proposition.Prop.TheFolds.{fold-roll-Prop}
 use Rattle.sy_core.specs.Mentions.{Event, joined, some_of, names_step, names_of, holds_step, has_holds, is_violation_of}
 
 some_of-map : (test : Prop → Bool) (ps : List Prop) → some_of (map test ps) ≡ list_any test ps

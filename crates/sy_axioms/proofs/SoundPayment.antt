@@ -2,10 +2,8 @@
 use Rattle.std.proofs.Common.{◌≡◌, ℕ, ℤ, pos, Bool, true, ◌&&◌, List, [], ◌∷◌, refl, sym, ◌∙◌, ap, arith}
 use Rattle.std.proofs.lemmas.Int.{ints}
 use Rattle.sy_base.specs.declared.time.TimeUnit.TheVariants.{Day}
-use Rattle.sy_core.specs.declared.event.Ev.{Ev}
 use Rattle.sy_core.specs.declared.event.Ev.TheVariants.{Outer}
 use Rattle.sy_core.specs.declared.date_term.Base.TheVariants.{Fixed}
-use Rattle.sy_core.specs.declared.date_term.DateTerm.{DateTerm}
 use Rattle.sy_core.specs.declared.proposition.Prop.{Prop}
 use Rattle.sy_core.specs.declared.proposition.Prop.TheVariants as Props
 use Rattle.sy_core.specs.declared.proposition.Prop.TheVariants.{rolls-Const, rolls-Before}

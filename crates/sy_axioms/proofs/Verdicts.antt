@@ -1,5 +1,5 @@
 -- The verdict and the soundness of a proposition with parts, by those of the parts.
-use Rattle.std.proofs.Common.{◌≡◌, ℕ, zero, suc, ◌+◌, ◌<◌, Bool, true, false, ◌&&◌, List, [], ◌∷◌, length, map, drop, get_or, refl, sym, ◌∙◌, ap, add-one, drop-cons, arith}
+use Rattle.std.proofs.Common.{◌≡◌, ℕ, suc, ◌+◌, ◌<◌, Bool, true, ◌&&◌, List, ◌∷◌, length, map, drop, get_or, refl, sym, ◌∙◌, ap, add-one, drop-cons}
 use Rattle.std.specs.List.{list_all}
 use Rattle.std.proofs.lemmas.List.Folds.{list_all-map}
 use Rattle.sy_base.specs.declared.time.TimeUnit.{TimeUnit}
@@ -9,7 +9,7 @@ use Rattle.sy_core.specs.declared.proposition.Prop.{Prop}
 use Rattle.sy_core.specs.declared.proposition.Prop.TheVariants as Props
 use Rattle.sy_core.specs.declared.proposition.Prop.TheVariants.{rolls-All, rolls-Any, rolls-Within, rolls-Occurs}
 use Rattle.sy_core.specs.declared.proposition.Prop.TheOpen as P
-use Rattle.sy_core.specs.declared.proposition.Prop.TheFolds.{fold-Prop, fold-roll-Prop}
+use Rattle.sy_core.specs.declared.proposition.Prop.TheFolds.{fold-roll-Prop}
 use Rattle.sy_core.specs.declared.event.Ev.{Ev}
 use Rattle.sy_core.specs.declared.date_term.DateTerm.{DateTerm}
 use Rattle.sy_core.specs.declared.proposition.Situation.{Situation}

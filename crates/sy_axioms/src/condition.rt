@@ -251,8 +251,7 @@ pub(crate) fn contract_suspended(deed: &Deed, now: &Day) -> bool
     requires { length deed.now.positions < 2 ^ 32 }
     ensures { result ≡ contract_fires deed.now (moment_of now.now) Kind.Suspended }
 {
-    was(now, Target::Contract, StateOf::InEffect)
-        && by(deed, now, Verb::Suspends, Target::Contract)
+    was(now, Target::Contract, StateOf::InEffect) && by(deed, now, Verb::Suspends, Target::Contract)
 }
 
 pub(crate) fn contract_terminated(deed: &Deed, now: &Day) -> bool
@@ -285,7 +284,13 @@ pub(crate) fn exerted(now: &Day, number: u32, position: &Position) -> bool
                 && acts_on_contract(&position.goal)))
 }
 
-pub(crate) fn triggered(deed: &Deed, now: &Day, before: &[Day], number: u32, position: &Position) -> bool
+pub(crate) fn triggered(
+    deed: &Deed,
+    now: &Day,
+    before: &[Day],
+    number: u32,
+    position: &Position,
+) -> bool
     requires ready { IsReady deed.now before.now now.now }
     requires sound { IsTrue (is_sound_position deed.now position.now) }
     ensures { result ≡ position_fires deed.now (moment_of now.now) (moments_to before.now now.now) number position.now Kind.Triggered }
@@ -297,7 +302,13 @@ pub(crate) fn triggered(deed: &Deed, now: &Day, before: &[Day], number: u32, pos
             || by(deed, now, Verb::Triggers, target))
 }
 
-pub(crate) fn activated(deed: &Deed, now: &Day, before: &[Day], number: u32, position: &Position) -> bool
+pub(crate) fn activated(
+    deed: &Deed,
+    now: &Day,
+    before: &[Day],
+    number: u32,
+    position: &Position,
+) -> bool
     requires ready { IsReady deed.now before.now now.now }
     requires sound { IsTrue (is_sound_position deed.now position.now) }
     ensures { result ≡ position_fires deed.now (moment_of now.now) (moments_to before.now now.now) number position.now Kind.Activated }
@@ -347,7 +358,13 @@ fn duty_is_false(deed: &Deed, now: &Day, before: &[Day], form: Form, goal: &Goal
     }
 }
 
-pub(crate) fn fulfilled(deed: &Deed, now: &Day, before: &[Day], number: u32, position: &Position) -> bool
+pub(crate) fn fulfilled(
+    deed: &Deed,
+    now: &Day,
+    before: &[Day],
+    number: u32,
+    position: &Position,
+) -> bool
     requires ready { IsReady deed.now before.now now.now }
     requires sound { IsTrue (is_sound_position deed.now position.now) }
     ensures { result ≡ position_fires deed.now (moment_of now.now) (moments_to before.now now.now) number position.now Kind.Fulfilled }
@@ -357,7 +374,13 @@ pub(crate) fn fulfilled(deed: &Deed, now: &Day, before: &[Day], number: u32, pos
         && duty_is_true(deed, now, before, position.form, &position.goal)
 }
 
-pub(crate) fn violated(deed: &Deed, now: &Day, before: &[Day], number: u32, position: &Position) -> bool
+pub(crate) fn violated(
+    deed: &Deed,
+    now: &Day,
+    before: &[Day],
+    number: u32,
+    position: &Position,
+) -> bool
     requires ready { IsReady deed.now before.now now.now }
     requires sound { IsTrue (is_sound_position deed.now position.now) }
     ensures { result ≡ position_fires deed.now (moment_of now.now) (moments_to before.now now.now) number position.now Kind.Violated }
@@ -367,7 +390,13 @@ pub(crate) fn violated(deed: &Deed, now: &Day, before: &[Day], number: u32, posi
         && duty_is_false(deed, now, before, position.form, &position.goal)
 }
 
-pub(crate) fn expired(deed: &Deed, now: &Day, before: &[Day], number: u32, position: &Position) -> bool
+pub(crate) fn expired(
+    deed: &Deed,
+    now: &Day,
+    before: &[Day],
+    number: u32,
+    position: &Position,
+) -> bool
     requires ready { IsReady deed.now before.now now.now }
     requires sound { IsTrue (is_sound_position deed.now position.now) }
     ensures { result ≡ position_fires deed.now (moment_of now.now) (moments_to before.now now.now) number position.now Kind.Expired }
@@ -383,9 +412,7 @@ pub(crate) fn discharged(deed: &Deed, now: &Day, number: u32, position: &Positio
     ensures { (moments : _) → result ≡ position_fires deed.now (moment_of now.now) moments number position.now Kind.Discharged }
 {
     let target = Target::Position(number);
-    is_obligation(position.form)
-        && alive(now, target)
-        && by(deed, now, Verb::Discharges, target)
+    is_obligation(position.form) && alive(now, target) && by(deed, now, Verb::Discharges, target)
 }
 
 pub(crate) fn terminated(deed: &Deed, now: &Day, number: u32, position: &Position) -> bool

@@ -194,7 +194,10 @@ impl Day {
     pub fn asks(&self, power: u32) -> bool
         ensures { result ≡ (moment_of self.now).asked power }
     {
-        self.whats.items().iter().any(|what| is_exertion(power, what))
+        self.whats
+            .items()
+            .iter()
+            .any(|what| is_exertion(power, what))
     }
 
     /// Whether the situation holds, by the states at the start.

@@ -89,14 +89,78 @@ fn payment_is_due_before_its_date(rt: HostRuntime) -> Result<(), Fail> {
     let alloc = rt.alloc();
     let deed = payment(alloc)?;
     let rows = [
-        (None, 100, StateOf::Null, StateOf::InEffect, Verdict::Open, false, false),
-        (None, 101, StateOf::InEffect, StateOf::InEffect, Verdict::Open, false, false),
-        (None, 110, StateOf::InEffect, StateOf::InEffect, Verdict::Open, false, false),
-        (None, 111, StateOf::Violation, StateOf::InEffect, Verdict::False, true, false),
-        (None, 112, StateOf::Violation, StateOf::InEffect, Verdict::False, false, false),
-        (Some(109), 110, StateOf::Fulfillment, StateOf::SuccessfulTermination, Verdict::True, false, true),
-        (Some(109), 111, StateOf::Fulfillment, StateOf::SuccessfulTermination, Verdict::True, false, false),
-        (Some(110), 111, StateOf::Violation, StateOf::InEffect, Verdict::False, true, false),
+        (
+            None,
+            100,
+            StateOf::Null,
+            StateOf::InEffect,
+            Verdict::Open,
+            false,
+            false,
+        ),
+        (
+            None,
+            101,
+            StateOf::InEffect,
+            StateOf::InEffect,
+            Verdict::Open,
+            false,
+            false,
+        ),
+        (
+            None,
+            110,
+            StateOf::InEffect,
+            StateOf::InEffect,
+            Verdict::Open,
+            false,
+            false,
+        ),
+        (
+            None,
+            111,
+            StateOf::Violation,
+            StateOf::InEffect,
+            Verdict::False,
+            true,
+            false,
+        ),
+        (
+            None,
+            112,
+            StateOf::Violation,
+            StateOf::InEffect,
+            Verdict::False,
+            false,
+            false,
+        ),
+        (
+            Some(109),
+            110,
+            StateOf::Fulfillment,
+            StateOf::SuccessfulTermination,
+            Verdict::True,
+            false,
+            true,
+        ),
+        (
+            Some(109),
+            111,
+            StateOf::Fulfillment,
+            StateOf::SuccessfulTermination,
+            Verdict::True,
+            false,
+            false,
+        ),
+        (
+            Some(110),
+            111,
+            StateOf::Violation,
+            StateOf::InEffect,
+            Verdict::False,
+            true,
+            false,
+        ),
     ];
     for (paid, now, state, contract, post, violated, completed) in rows {
         assert!(rt; now <= 1000);
@@ -105,8 +169,16 @@ fn payment_is_due_before_its_date(rt: HostRuntime) -> Result<(), Fail> {
         assert_eq!(rt; plain.states(), [state].as_slice(), "at {now}");
         assert_eq!(rt; plain.contract(), contract, "at {now}");
         assert_eq!(rt; plain.post(&deed, 0), post, "at {now}");
-        assert_eq!(rt; plain.happened(Kind::Violated, Target::Position(0)), violated, "at {now}");
-        assert_eq!(rt; plain.happened(Kind::Completed, Target::Contract), completed, "at {now}");
+        assert_eq!(rt;
+            plain.happened(Kind::Violated, Target::Position(0)),
+            violated,
+            "at {now}"
+        );
+        assert_eq!(rt;
+            plain.happened(Kind::Completed, Target::Contract),
+            completed,
+            "at {now}"
+        );
     }
     Ok(())
 }

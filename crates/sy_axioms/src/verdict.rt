@@ -157,7 +157,14 @@ fn date_value(deed: &Deed, now: &Day, before: &[Day], term: &DateTerm) -> Option
     Some(add_all(deed.unit, point, term.plus.items()))
 }
 
-fn within(deed: &Deed, now: &Day, before: &[Day], ev: &Ev, from: &DateTerm, to: &DateTerm) -> Verdict
+fn within(
+    deed: &Deed,
+    now: &Day,
+    before: &[Day],
+    ev: &Ev,
+    from: &DateTerm,
+    to: &DateTerm,
+) -> Verdict
     requires ready { IsReady deed.now before.now now.now }
     requires from { IsTrue (is_sound_date deed.now from.now) }
     requires to { IsTrue (is_sound_date deed.now to.now) }
@@ -173,7 +180,14 @@ fn within(deed: &Deed, now: &Day, before: &[Day], ev: &Ev, from: &DateTerm, to: 
     }
 }
 
-fn occurs(deed: &Deed, now: &Day, before: &[Day], situation: Situation, from: &DateTerm, to: &DateTerm) -> Verdict
+fn occurs(
+    deed: &Deed,
+    now: &Day,
+    before: &[Day],
+    situation: Situation,
+    from: &DateTerm,
+    to: &DateTerm,
+) -> Verdict
     requires ready { IsReady deed.now before.now now.now }
     requires from { IsTrue (is_sound_date deed.now from.now) }
     requires to { IsTrue (is_sound_date deed.now to.now) }

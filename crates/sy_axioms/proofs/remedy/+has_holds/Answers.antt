@@ -1,4 +1,4 @@
-use Rattle.std.proofs.Common.{◌≡◌, sym, ◌∙◌, ap}
+use Rattle.std.proofs.Common.{sym, ◌∙◌, ap}
 use Rattle.std.specs.List.{list_any}
 use Rattle.sy_core.specs.Mentions.{has_holds}
 use Rattle.sy_axioms.proofs.Mentions.{has_holds-parts, found_at, none_left}

@@ -1,4 +1,4 @@
-use Rattle.std.proofs.Common.{◌≡◌, sym, ◌∙◌, ap}
+use Rattle.std.proofs.Common.{sym, ◌∙◌, ap}
 use Rattle.std.specs.List.{list_any}
 use Rattle.sy_axioms.proofs.Mentions.{is_named, is_named-parts, found_at, none_left}
 use Rattle.sy_axioms.proofs.remedy.+names_violation.Goals as goal

@@ -1,4 +1,4 @@
-use Rattle.std.proofs.Common.{◌≡◌, false}
+use Rattle.std.proofs.Common.{false}
 use Rattle.sy_axioms.specs.Days.{moments_to}
 use Rattle.sy_axioms.proofs.rounds.position_round.Goals as goal
 

@@ -1,6 +1,4 @@
-use Rattle.std.proofs.Common.{◌≡◌, [], refl, rules, ap, ◌∙◌, sym, arith}
-use Rattle.sy_core.specs.Chronicle.{assuming}
-use Rattle.sy_axioms.specs.Days.{moment_of, state_in}
+use Rattle.std.proofs.Common.{refl, arith}
 use Rattle.sy_axioms.proofs.OneRound.{before_rounds, after_next, settled_moment, last_moment}
 use Rattle.sy_axioms.proofs.rounds.with_events.Goals as goal
 

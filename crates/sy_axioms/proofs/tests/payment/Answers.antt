@@ -1,4 +1,3 @@
-use Rattle.std.proofs.Common.{◌≡◌}
 use Rattle.sy_axioms.proofs.SoundPayment.{payment_is_sound}
 use Rattle.sy_axioms.proofs.tests.payment.Goals as goal
 

@@ -1,24 +1,28 @@
-use Rattle.std.proofs.Common.{rules, ◌≡◌, true, List, [], ◌∷◌, ◌++◌, map, drop, sym, ◌∙◌, ap, subst, arith}
+use Rattle.std.proofs.Common.{rules, sym, ◌∙◌, ap, arith}
 use Rattle.std.proofs.lemmas.Grind.{common_steps}
-use Rattle.sy_core.specs.Propositions.{verdict_in, lesser, greater, least, greatest}
-use Rattle.sy_core.specs.declared.proposition.Prop.TheVariants as Props
+use Rattle.sy_core.specs.Propositions.{verdict_in}
 use Rattle.sy_core.specs.declared.proposition.Prop.TheFolds.{the_lemmas}
-use Rattle.sy_core.specs.Soundness.{is_sound_prop}
 use Rattle.sy_axioms.specs.Days.{moment_of, moments_to}
 use Rattle.sy_axioms.proofs.Verdicts.{sound_part_of_all, sound_part_of_any, sound_end_of_within, sound_end_of_occurs, least_goes_on, greatest_goes_on, lesser-true, greater-false, verdict-all, verdict-any, verdict-within, verdict-occurs}
 use Rattle.sy_axioms.proofs.verdict.+verdict.Goals as goal
 
 pub verdict-requires-in-loop-part : goal.verdict-requires-in-loop-part
-verdict-requires-in-loop-part t c =
-    (search (rules, the_lemmas),
-    (c.requires.ready,
-    sound_part_of_all c.args.deed.now c.args.prop.now c.in-All.parts c.as_slice-part-items.result.now c.loop-part.part-index c.part-item.result c.requires.sound c.in-All.is c.as_slice-part-items.ensures c.loop-part-test.true c.part-item.is))
+verdict-requires-in-loop-part t c = (
+  search (rules, the_lemmas),
+  (
+    c.requires.ready,
+    sound_part_of_all c.args.deed.now c.args.prop.now c.in-All.parts c.as_slice-part-items.result.now c.loop-part.part-index c.part-item.result c.requires.sound c.in-All.is c.as_slice-part-items.ensures c.loop-part-test.true c.part-item.is,
+  ),
+)
 
 pub verdict-requires-in-loop-part-2 : goal.verdict-requires-in-loop-part-2
-verdict-requires-in-loop-part-2 t c =
-    (search (rules, the_lemmas),
-    (c.requires.ready,
-    sound_part_of_any c.args.deed.now c.args.prop.now c.in-Any.parts c.as_slice-part-items-in-Any.result.now c.loop-part-2.part-index c.part-item-in-loop-part-2.result c.requires.sound c.in-Any.is c.as_slice-part-items-in-Any.ensures c.loop-part-2-test.true c.part-item-in-loop-part-2.is))
+verdict-requires-in-loop-part-2 t c = (
+  search (rules, the_lemmas),
+  (
+    c.requires.ready,
+    sound_part_of_any c.args.deed.now c.args.prop.now c.in-Any.parts c.as_slice-part-items-in-Any.result.now c.loop-part-2.part-index c.part-item-in-loop-part-2.result c.requires.sound c.in-Any.is c.as_slice-part-items-in-Any.ensures c.loop-part-2-test.true c.part-item-in-loop-part-2.is,
+  ),
+)
 
 pub within-requires-clause-to : goal.within-requires-clause-to
 within-requires-clause-to t c =

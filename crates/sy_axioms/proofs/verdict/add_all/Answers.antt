@@ -1,7 +1,6 @@
-use Rattle.std.proofs.Common.{◌≡◌, ◌+◌, drop, get_or, sym, ◌∙◌, ap, subst, add-one, drop-cons, arith, w64, to_z}
+use Rattle.std.proofs.Common.{◌+◌, get_or, sym, ◌∙◌, ap, subst, add-one, drop-cons, arith, w64, to_z}
 use Rattle.sy_base.specs.declared.time.Duration.{Duration}
 use Rattle.sy_base.specs.declared.time.Measure.TheVariants.{Minutes}
-use Rattle.sy_base.specs.Points.{added}
 use Rattle.sy_core.specs.Moments.{all_added}
 use Rattle.sy_core.specs.Soundness.{is_duration_of}
 use Rattle.sy_axioms.proofs.Dates.{IsReached, added_is_reached, reached_is_passed}

@@ -1,4 +1,4 @@
-use Rattle.std.proofs.Common.{◌≡◌, subst, sym}
+use Rattle.std.proofs.Common.{subst, sym}
 use Rattle.sy_base.specs.Points.{IsDated}
 use Rattle.sy_axioms.proofs.Dates.{beginning_is_dated, dated_is_passed}
 use Rattle.sy_axioms.proofs.verdict.date_value.Goals as goal

@@ -1,4 +1,4 @@
-use Rattle.std.proofs.Common.{◌≡◌, ℕ, ℤ, suc, ◌<◌, Bool, true, not, ◌&&◌, ◌||◌, int_lt, int_le, List, [], ◌∷◌, ◌++◌, length, map, drop, get_or, sym, ◌∙◌, ap, subst, drop-cons, w64}
+use Rattle.std.proofs.Common.{◌≡◌, ℕ, ℤ, suc, ◌<◌, Bool, true, not, ◌&&◌, ◌||◌, int_lt, int_le, List, ◌∷◌, length, drop, get_or, sym, ◌∙◌, ap, subst, drop-cons, w64}
 use Rattle.std.proofs.lemmas.Int.{to_z-of_z}
 use Rattle.sy_core.specs.declared.proposition.Situation.{Situation}
 use Rattle.sy_core.specs.Propositions.{situation_holds, fails_within}

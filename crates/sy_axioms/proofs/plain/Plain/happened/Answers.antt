@@ -1,4 +1,4 @@
-use Rattle.std.proofs.Common.{◌≡◌, sym, ◌∙◌, ap}
+use Rattle.std.proofs.Common.{sym, ◌∙◌, ap}
 use Rattle.sy_core.specs.declared.event.Ev.TheVariants.{Inner}
 use Rattle.sy_axioms.proofs.LastDay.{last_is}
 use Rattle.sy_axioms.proofs.plain.Plain.happened.Goals as goal
