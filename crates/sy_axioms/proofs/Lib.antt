@@ -1,0 +1,10 @@
+pub mod Dates
+pub mod Equal
+pub mod GoesOn
+pub mod LastDay
+pub mod Members
+pub mod Mentions
+pub mod OneRound
+pub mod Passing
+pub mod SoundPayment
+pub mod Verdicts

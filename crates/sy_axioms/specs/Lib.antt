@@ -1,0 +1,3 @@
+pub mod Days
+pub mod Ready
+pub mod Standing

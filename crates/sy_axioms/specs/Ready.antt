@@ -1,0 +1,13 @@
+-- When a point can be evaluated, with the points before it.
+use Rattle.std.specs.Prelude.{List}
+use Rattle.std.specs.List.{All}
+use Rattle.sy_base.specs.Points.{IsDated}
+use Rattle.sy_core.specs.declared.deed.Deed.{Deed}
+use Rattle.sy_core.specs.Soundness.{IsSound}
+use Rattle.sy_axioms.specs.declared.day.Day.{Day}
+
+-- the deed is sound, and every point is one of a date in its unit
+pub record IsReady (deed : Deed) (before : List Day) (now : Day) : Type 0 where
+  pub sound : IsSound deed
+  pub before_dated : All (λ day. IsDated deed.unit day.point) before
+  pub now_dated : IsDated deed.unit now.point

@@ -1,0 +1,17 @@
+//! The plain evaluator: it keeps every point, and works each next one out by the definitions as they
+//! stand. It is slow, and it is what faster evaluators are held against.
+#![tactic(auto)]
+
+mod condition;
+mod day;
+mod plain;
+mod remedy;
+mod rounds;
+mod states;
+mod step;
+mod verdict;
+
+pub use plain::Plain;
+
+#[cfg(test)]
+mod tests;

@@ -1,0 +1,118 @@
+ghost use Rattle.std.specs.Prelude.{◌≡◌, ◌+ℤ◌, ℕ, suc, pos, false, Some, List, IfOk, slice_get, length, ◌<◌};
+ghost use Rattle.sy_core.specs.declared.deed.Deed.{Deed};
+ghost use Rattle.sy_core.specs.declared.event.Ev.TheVariants.{Inner};
+ghost use Rattle.sy_core.specs.declared.happening.Happening.{Happening};
+ghost use Rattle.sy_core.specs.declared.proposition.Prop.{Prop};
+ghost use Rattle.sy_core.specs.Propositions.{verdict_at};
+ghost use Rattle.sy_core.specs.Chronicle.{first_state, chronicle, state_at, moment_at};
+ghost use Rattle.sy_core.specs.Soundness.{IsSound};
+ghost use Rattle.sy_core.specs.Tables.{states_of};
+ghost use Rattle.sy_axioms.specs.Standing.{StandsFor, IsMadeFor, next_point};
+
+use crate::day::{Day, States};
+use crate::verdict::verdict;
+use std::alloc::Global;
+use sy_base::{List, Memory, Point};
+use sy_core::{Deed, Kind, StateOf, Target, Verdict};
+
+/// The plain evaluator of a deed. It keeps every point from start on, and the next point is worked
+/// out by searching through all of them.
+#[derive(Debug, Drop)]
+pub struct Plain {
+    pub(crate) alloc: Global,
+    /// The points so far, from start on.
+    pub(crate) days: List<Day>,
+    /// The point that comes next.
+    pub(crate) point: Point,
+    /// The states at the start of that point.
+    pub(crate) states: States,
+}
+
+fn first_states(alloc: Global, deed: &Deed) -> Result<List<StateOf>, Memory>
+    ensures { IfOk result (λ states. states ≡ states_of first_state 0 deed.now.positions) }
+{
+    let mut states = List::new(alloc);
+    for _position in deed.positions.items() {
+        states.push(StateOf::Null)?;
+    }
+    Ok(states)
+}
+
+impl Plain {
+    /// An evaluator that stands at the deed's start.
+    pub fn new(alloc: Global, deed: &Deed) -> Result<Plain, Memory>
+        requires { IsSound deed.now }
+        ensures start { IfOk result (λ plain. (narrative : List Happening) → StandsFor plain deed.now narrative 0) }
+        ensures made { IfOk result (λ plain. IsMadeFor plain deed.now) }
+        ensures point { IfOk result (λ plain. next_point plain ≡ deed.now.start) }
+    {
+        Ok(Plain {
+            alloc,
+            days: List::new(alloc),
+            point: deed.start,
+            states: States {
+                contract: StateOf::InEffect,
+                positions: first_states(alloc, deed)?,
+            },
+        })
+    }
+
+    /// The point that is evaluated next.
+    pub fn now(&self) -> Point
+        ensures point { result ≡ next_point self.now }
+        ensures stands { (deed : Deed) (narrative : List Happening) (n : ℕ) → StandsFor self.now deed narrative n
+            → result ≡ deed.start +ℤ pos n }
+    {
+        self.point
+    }
+
+    /// The states of the positions now, in their order.
+    pub fn states(&self) -> &[StateOf]
+        ensures { (deed : Deed) (narrative : List Happening) (n : ℕ) → StandsFor self.now deed narrative n
+            → result.now ≡ states_of (state_at deed narrative n) 0 deed.positions }
+    {
+        self.states.positions.items()
+    }
+
+    /// The contract's state now.
+    pub fn contract(&self) -> StateOf
+        ensures { (deed : Deed) (narrative : List Happening) (n : ℕ) → StandsFor self.now deed narrative n
+            → result ≡ state_at deed narrative n Target.Contract }
+    {
+        self.states.contract
+    }
+
+    /// Whether the internal event happened at the last point that was evaluated. Before the first one
+    /// none did.
+    pub fn happened(&self, kind: Kind, target: Target) -> bool
+        ensures none { (deed : Deed) (narrative : List Happening) → StandsFor self.now deed narrative 0
+            → result ≡ false }
+        ensures last { (deed : Deed) (narrative : List Happening) (n : ℕ) → StandsFor self.now deed narrative (suc n)
+            → result ≡ (moment_at deed narrative n).seen (Inner kind target) }
+    {
+        match self.days.items().split_last() {
+            None => false,
+            Some((day, _)) => day.happens(kind, target),
+        }
+    }
+
+    /// The verdict of the deed's postcondition with this number at the last point that was evaluated.
+    /// Before the first one it is Open.
+    pub fn post(&self, deed: &Deed, number: u32) -> Verdict
+        requires sound { IsSound deed.now }
+        requires made { IsMadeFor self.now deed.now }
+        requires post { number < length deed.now.posts }
+        ensures none { (narrative : List Happening) → StandsFor self.now deed.now narrative 0
+            → result ≡ Verdict.Open }
+        ensures last { (narrative : List Happening) (n : ℕ) (prop : Prop) → StandsFor self.now deed.now narrative (suc n)
+            → slice_get deed.now.posts number ≡ Some prop
+            → result ≡ verdict_at deed.now.unit (moment_at deed.now narrative n) (chronicle deed.now narrative n) prop }
+    {
+        match self.days.items().split_last() {
+            None => Verdict::Open,
+            Some((now, before)) => {
+                verdict(deed, now, before, &deed.posts.items()[number as usize])
+            }
+        }
+    }
+}

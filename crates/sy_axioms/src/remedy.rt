@@ -1,0 +1,93 @@
+ghost use Rattle.std.specs.Prelude.{◌≡◌};
+ghost use Rattle.std.specs.List.{list_any};
+ghost use Rattle.sy_core.specs.Mentions.{named_by_event, named_by_base, named_by_date, names_of, has_holds, same_target, is_violation_of};
+ghost use Rattle.sy_core.specs.Conditions.{is_remedy};
+
+use crate::condition::is_obligation;
+use sy_core::{Base, DateTerm, Ev, Kind, Position, Prop, Target};
+
+pub(crate) fn is_same_target(a: Target, b: Target) -> bool
+    ensures { result ≡ same_target a b }
+{
+    match (a, b) {
+        (Target::Contract, Target::Contract) => true,
+        (Target::Position(i), Target::Position(j)) => i == j,
+        _ => false,
+    }
+}
+
+/// The event is the violation of the target.
+fn is_violation(ev: &Ev, broken: Target) -> bool
+    ensures { result ≡ list_any (is_violation_of broken) (named_by_event ev.now) }
+{
+    match ev {
+        Ev::Inner(Kind::Violated, target) => is_same_target(*target, broken),
+        _ => false,
+    }
+}
+
+/// The date term begins with the violation of the target.
+fn is_date_of_violation(term: &DateTerm, broken: Target) -> bool
+    ensures { result ≡ list_any (is_violation_of broken) (named_by_date term.now) }
+{
+    match &term.base {
+        Base::First(ev) => is_violation(ev, broken),
+        Base::Fixed(_) => false,
+    }
+}
+
+/// The proposition names the violation of the target, anywhere in it.
+fn names_violation(prop: &Prop, broken: Target) -> bool
+    ensures { result ≡ list_any (is_violation_of broken) (names_of prop.now) }
+{
+    match prop {
+        Prop::Not(part) => names_violation(part.get(), broken),
+        Prop::All(parts) | Prop::Any(parts) => {
+            for part in parts.as_slice() {
+                if names_violation(part, broken) {
+                    return true;
+                }
+            }
+            false
+        }
+        Prop::Happens(ev) => is_violation(ev, broken),
+        Prop::Before(ev, date) | Prop::After(ev, date) => {
+            is_violation(ev, broken) || is_date_of_violation(date, broken)
+        }
+        Prop::Within(ev, from, to) => {
+            is_violation(ev, broken)
+                || is_date_of_violation(from, broken)
+                || is_date_of_violation(to, broken)
+        }
+        Prop::Occurs(_, from, to) => {
+            is_date_of_violation(from, broken) || is_date_of_violation(to, broken)
+        }
+        Prop::Const(_) | Prop::Holds(_) => false,
+    }
+}
+
+/// The position is a remedy of the broken one: an obligation whose trigger names its violation.
+pub(crate) fn is_remedy(broken: Target, position: &Position) -> bool
+    ensures { result ≡ is_remedy broken position.now }
+{
+    is_obligation(position.form) && names_violation(&position.trigger, broken)
+}
+
+/// The proposition has a `Holds` somewhere in it.
+pub(crate) fn has_holds(prop: &Prop) -> bool
+    ensures { result ≡ has_holds prop.now }
+{
+    match prop {
+        Prop::Not(part) => has_holds(part.get()),
+        Prop::All(parts) | Prop::Any(parts) => {
+            for part in parts.as_slice() {
+                if has_holds(part) {
+                    return true;
+                }
+            }
+            false
+        }
+        Prop::Holds(_) => true,
+        _ => false,
+    }
+}

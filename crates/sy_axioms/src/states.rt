@@ -1,0 +1,148 @@
+ghost use Rattle.std.specs.Prelude.{◌≡◌, ◌+◌, ◌<◌, ◌^◌, IfOk, if◌then◌else◌, length};
+ghost use Rattle.sy_core.specs.States.{kinds_of, contract_kinds, expired_state, state_by, last_state, state_after, contract_after};
+ghost use Rattle.sy_core.specs.Conditions.{next_state};
+ghost use Rattle.sy_axioms.specs.Days.{has, moment_of, next_states, states_past};
+
+use crate::day::{Day, Fired, States};
+use std::alloc::Global;
+use sy_base::{List, Memory};
+use sy_core::{Deed, Form, Kind, Position, StateOf, Target};
+
+const OBLIGATION_KINDS: [Kind; 9] = [
+    Kind::Triggered,
+    Kind::Activated,
+    Kind::Resumed,
+    Kind::Suspended,
+    Kind::Fulfilled,
+    Kind::Violated,
+    Kind::Expired,
+    Kind::Discharged,
+    Kind::Terminated,
+];
+
+const POWER_KINDS: [Kind; 7] = [
+    Kind::Exerted,
+    Kind::Triggered,
+    Kind::Activated,
+    Kind::Resumed,
+    Kind::Suspended,
+    Kind::Expired,
+    Kind::Terminated,
+];
+
+const CONTRACT_KINDS: [Kind; 4] = [
+    Kind::Resumed,
+    Kind::Suspended,
+    Kind::Terminated,
+    Kind::Completed,
+];
+
+/// The kinds of internal event of a position of the form, in the order of kinds.
+pub(crate) fn kinds_of(form: Form) -> &'static [Kind]
+    ensures { result.now ≡ kinds_of form }
+{
+    match form {
+        Form::Power => &POWER_KINDS,
+        _ => &OBLIGATION_KINDS,
+    }
+}
+
+/// The kinds of internal event of the contract, in the order of kinds.
+pub(crate) fn contract_kinds() -> &'static [Kind]
+    ensures { result.now ≡ contract_kinds }
+{
+    &CONTRACT_KINDS
+}
+
+fn expired_state(form: Form) -> StateOf
+    ensures { result ≡ expired_state form }
+{
+    match form {
+        Form::Power => StateOf::UnsuccessfulTermination,
+        _ => StateOf::Discharge,
+    }
+}
+
+/// The state that an event of the kind gives.
+fn state_by(form: Form, kind: Kind) -> StateOf
+    ensures { result ≡ state_by form kind }
+{
+    match kind {
+        Kind::Exerted => StateOf::SuccessfulTermination,
+        Kind::Triggered => StateOf::Create,
+        Kind::Activated => StateOf::InEffect,
+        Kind::Resumed => StateOf::InEffect,
+        Kind::Suspended => StateOf::Suspension,
+        Kind::Fulfilled => StateOf::Fulfillment,
+        Kind::Violated => StateOf::Violation,
+        Kind::Expired => expired_state(form),
+        Kind::Discharged => StateOf::Discharge,
+        Kind::Terminated => StateOf::UnsuccessfulTermination,
+        Kind::Completed => StateOf::SuccessfulTermination,
+    }
+}
+
+fn state_if(form: Form, kind: Kind, fired: Fired, state: StateOf) -> StateOf
+    ensures { result ≡ (if has fired kind then state_by form kind else state) }
+{
+    if fired.has(kind) {
+        state_by(form, kind)
+    } else {
+        state
+    }
+}
+
+/// Each of the kinds that fired gives its state, so that the last one counts.
+fn last_state(form: Form, kinds: &[Kind], fired: Fired, state: StateOf) -> StateOf
+    ensures { result ≡ last_state form kinds.now (has fired) state }
+{
+    let mut last = state;
+    for kind in kinds {
+        last = state_if(form, *kind, fired, last);
+    }
+    last
+}
+
+/// The state of the position with this number after the day.
+pub(crate) fn next_state(now: &Day, number: u32, position: &Position) -> StateOf
+    ensures { result ≡ next_state (moment_of now.now) number position.now }
+{
+    let form = position.form;
+    let state = now.state(Target::Position(number));
+    last_state(form, kinds_of(form), now.fired_at(number), state)
+}
+
+fn contract_after(now: &Day) -> StateOf
+    ensures { result ≡ contract_after (has now.now.events.contract) now.now.states.contract }
+{
+    last_state(
+        Form::Obligation,
+        contract_kinds(),
+        now.events.contract,
+        now.states.contract,
+    )
+}
+
+fn positions_after(alloc: Global, deed: &Deed, now: &Day) -> Result<List<StateOf>, Memory>
+    requires { length deed.now.positions < 2 ^ 32 }
+    ensures { IfOk result (λ states. states ≡ next_states (moment_of now.now) 0 deed.now.positions) }
+{
+    let mut states = List::new(alloc);
+    let mut number = 0;
+    for position in deed.positions.items() {
+        states.push(next_state(now, number, position))?;
+        number += 1;
+    }
+    Ok(states)
+}
+
+/// The states after the day.
+pub(crate) fn states_after(alloc: Global, deed: &Deed, now: &Day) -> Result<States, Memory>
+    requires { length deed.now.positions < 2 ^ 32 }
+    ensures { IfOk result (λ states. states ≡ states_past deed.now now.now) }
+{
+    Ok(States {
+        contract: contract_after(now),
+        positions: positions_after(alloc, deed, now)?,
+    })
+}
