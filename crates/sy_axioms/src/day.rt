@@ -134,7 +134,8 @@ fn is_exertion(power: u32, what: &What) -> bool
 impl Day {
     /// The kinds of internal event that happen to the position with this number.
     pub fn fired_at(&self, position: u32) -> Fired
-        ensures { (kind : _) → has result kind ≡ (moment_of self.now).seen (Ev.Inner kind (Target.Position position)) }
+        ensures { (kind : _) → has result kind
+            ≡ (moment_of self.now).seen (Ev.Inner kind (Target.Position position)) }
     {
         match self.events.positions.items().get(position as usize) {
             None => NOTHING,
@@ -221,13 +222,17 @@ impl Day {
     }
 
     pub fn sees_between(&self, ev: &Ev, from: Point, to: Point) -> bool
-        ensures { result ≡ ((moment_of self.now).seen ev.now && (int_le from self.now.point && int_lt self.now.point to)) }
+        ensures { result
+            ≡ ((moment_of self.now).seen ev.now
+            && (int_le from self.now.point && int_lt self.now.point to)) }
     {
         self.sees(ev) && from <= self.point && self.point < to
     }
 
     pub fn fails_between(&self, situation: Situation, from: Point, to: Point) -> bool
-        ensures { result ≡ ((int_le from self.now.point && int_lt self.now.point to) && not (situation_holds situation (moment_of self.now))) }
+        ensures { result
+            ≡ ((int_le from self.now.point && int_lt self.now.point to)
+            && not (situation_holds situation (moment_of self.now))) }
     {
         from <= self.point && self.point < to && !self.holds(situation)
     }

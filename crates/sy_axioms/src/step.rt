@@ -29,7 +29,8 @@ impl Plain {
         requires sound { IsSound deed.now }
         requires made { IsMadeFor self.old deed.now }
         requires dated { IsDated deed.now.unit (next_point self.old) }
-        ensures next { IfOk result (λ _. (narrative : List Happening) (n : ℕ) → StandsFor self.old deed.now narrative n
+        ensures next { IfOk result
+            (λ _. (narrative : List Happening) (n : ℕ) → StandsFor self.old deed.now narrative n
             → HasExactly narrative (deed.now.start +ℤ pos n) at.now
             → StandsFor self.new deed.now narrative (suc n)) }
         ensures made { IsMadeFor self.new deed.now }
