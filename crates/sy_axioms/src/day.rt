@@ -1,4 +1,4 @@
-ghost use Rattle.std.specs.Prelude.{◌≡◌, ◌&&◌, ◌↔◌, IsTrue, IfOk, int_lt, int_le, not};
+ghost use Rattle.std.specs.Prelude.{[], ◌≡◌, ◌&&◌, ◌↔◌, IsTrue, IfOk, int_lt, int_le, not};
 ghost use Rattle.std.specs.List.{list_any};
 ghost use Rattle.sy_core.specs.States.{same_state};
 ghost use Rattle.sy_core.specs.Propositions.{situation_holds};
@@ -65,6 +65,16 @@ pub(crate) struct Day {
 }
 
 impl Events {
+    /// No event happens.
+    pub fn none(alloc: Global) -> Events
+        ensures { result ≡ record { contract = NOTHING; positions = [] } }
+    {
+        Events {
+            contract: NOTHING,
+            positions: List::new(alloc),
+        }
+    }
+
     /// Whether the events are the same. So `==` answers too.
     pub fn is_same(&self, other: &Events) -> bool
         ensures { IsTrue result ↔ (self.now ≡ other.now) }

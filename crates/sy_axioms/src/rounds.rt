@@ -112,10 +112,7 @@ pub(crate) fn with_events(
 {
     let count = count_events(deed);
     let mut now = day;
-    now.events = Events {
-        contract: NOTHING,
-        positions: List::new(alloc),
-    };
+    now.events = Events::none(alloc);
     for round in 0..count {
         let events = next_round(alloc, deed, &now, before)?;
         if events.is_same(&now.events) {
