@@ -1,14 +1,13 @@
-ghost use Rattle.std.specs.Prelude.{◌≡◌, ◌==◌, ◌&&◌, ◌||◌, ◌+◌, ◌<◌, ◌^◌, not, length, IsTrue};
-ghost use Rattle.sy_core.specs.States.{same_state};
+ghost use Rattle.std.specs.Prelude.{◌≡◌, ◌==◌, ◌&&◌, ◌<◌, ◌^◌, length, IsTrue};
 ghost use Rattle.sy_core.specs.Propositions.{is_true, is_false};
-ghost use Rattle.sy_core.specs.Conditions.{verb_number, is_act, acts_on_contract, is_power, is_obligation, survives, is_awaited, is_settled, is_remedy, duty_is, happened, was, exerted_from, live, alive, in_force, awaits, stays_due, next_state, remedied_from, all_settled_from, any_begun_from, by, is_complete, contract_fires, position_fires};
-ghost use Rattle.sy_core.specs.Soundness.{IsSound, is_sound_goal, is_sound_position};
+ghost use Rattle.sy_core.specs.Conditions.{verb_number, is_act, acts_on_contract, is_power, is_obligation, survives, duty_is, happened, was, exerted_from, live, alive, in_force, awaits, stays_due, by, contract_fires, position_fires};
+ghost use Rattle.sy_core.specs.Soundness.{is_sound_goal, is_sound_position};
 ghost use Rattle.sy_axioms.specs.Days.{moment_of, moments_to};
 ghost use Rattle.sy_axioms.specs.Ready.{IsReady};
 
+use crate::completion::is_complete;
 use crate::day::{Day, is_same_state};
-use crate::remedy::{has_holds, is_remedy, is_same_target};
-use crate::states::next_state;
+use crate::remedy::{has_holds, is_same_target};
 use crate::verdict::verdict;
 use sy_core::{Deed, Form, Goal, Kind, Position, StateOf, Target, Verb, Verdict};
 
@@ -28,13 +27,6 @@ fn survives(form: Form) -> bool
     ensures { result ≡ survives form }
 {
     matches!(form, Form::Surviving)
-}
-
-/// The contract's completion waits for positions of the form.
-fn is_awaited(form: Form) -> bool
-    ensures { result ≡ is_awaited form }
-{
-    matches!(form, Form::Obligation)
 }
 
 fn is_true(verdict: Verdict) -> bool
@@ -83,7 +75,9 @@ fn was(now: &Day, target: Target, state: StateOf) -> bool
 
 /// The position does this to that target, and is exerted.
 fn performs(now: &Day, number: u32, position: &Position, verb: Verb, target: Target) -> bool
-    ensures { result ≡ (is_act verb target position.now.goal && happened (moment_of now.now) Kind.Exerted (Target.Position number)) }
+    ensures { result
+        ≡ (is_act verb target position.now.goal
+        && happened (moment_of now.now) Kind.Exerted (Target.Position number)) }
 {
     is_act(verb, target, &position.goal) && now.happens(Kind::Exerted, Target::Position(number))
 }
@@ -147,96 +141,6 @@ fn stays_due(now: &Day, target: Target, form: Form) -> bool
         && !now.happens(Kind::Terminated, target)
 }
 
-/// An obligation in this state is settled: not begun, kept, discharged, or broken and remedied.
-fn is_settled(state: StateOf, remedied: bool) -> bool
-    ensures { result ≡ is_settled state remedied }
-{
-    match state {
-        StateOf::Null | StateOf::Fulfillment | StateOf::Discharge => true,
-        StateOf::Violation => remedied,
-        _ => false,
-    }
-}
-
-/// The position is a remedy of the broken one, and is kept after the day.
-fn remedies(now: &Day, number: u32, position: &Position, broken: Target) -> bool
-    ensures { result ≡ (is_remedy broken position.now && same_state (next_state (moment_of now.now) number position.now) StateOf.Fulfillment) }
-{
-    is_remedy(broken, position)
-        && is_same_state(next_state(now, number, position), StateOf::Fulfillment)
-}
-
-/// Some remedy of the broken position is kept after the day.
-fn is_remedied(deed: &Deed, now: &Day, broken: Target) -> bool
-    requires { length deed.now.positions < 2 ^ 32 }
-    ensures { result ≡ remedied_from (moment_of now.now) broken 0 deed.now.positions }
-{
-    let mut number = 0;
-    for position in deed.positions.items() {
-        if remedies(now, number, position, broken) {
-            return true;
-        }
-        number += 1;
-    }
-    false
-}
-
-/// The contract's completion doesn't wait for the position any more.
-fn is_done(deed: &Deed, now: &Day, number: u32, position: &Position) -> bool
-    requires { length deed.now.positions < 2 ^ 32 }
-    ensures { result ≡ (not (is_awaited position.now.form) || is_settled (next_state (moment_of now.now) number position.now) (remedied_from (moment_of now.now) (Target.Position number) 0 deed.now.positions)) }
-{
-    !is_awaited(position.form)
-        || is_settled(
-            next_state(now, number, position),
-            is_remedied(deed, now, Target::Position(number)),
-        )
-}
-
-/// Each awaited obligation is settled after the day.
-fn all_settled(deed: &Deed, now: &Day) -> bool
-    requires { length deed.now.positions < 2 ^ 32 }
-    ensures { result ≡ all_settled_from (moment_of now.now) deed.now.positions 0 deed.now.positions }
-{
-    let mut number = 0;
-    for position in deed.positions.items() {
-        if !is_done(deed, now, number, position) {
-            return false;
-        }
-        number += 1;
-    }
-    true
-}
-
-/// The position is an awaited obligation that has begun after the day.
-fn has_begun(now: &Day, number: u32, position: &Position) -> bool
-    ensures { result ≡ (is_awaited position.now.form && not (same_state (next_state (moment_of now.now) number position.now) StateOf.Null)) }
-{
-    is_awaited(position.form) && !is_same_state(next_state(now, number, position), StateOf::Null)
-}
-
-/// Some awaited obligation has begun after the day.
-fn any_begun(deed: &Deed, now: &Day) -> bool
-    requires { length deed.now.positions < 2 ^ 32 }
-    ensures { result ≡ any_begun_from (moment_of now.now) 0 deed.now.positions }
-{
-    let mut number = 0;
-    for position in deed.positions.items() {
-        if has_begun(now, number, position) {
-            return true;
-        }
-        number += 1;
-    }
-    false
-}
-
-fn is_complete(deed: &Deed, now: &Day) -> bool
-    requires { length deed.now.positions < 2 ^ 32 }
-    ensures { result ≡ is_complete deed.now (moment_of now.now) }
-{
-    all_settled(deed, now) && any_begun(deed, now)
-}
-
 // The conditions of the contract's events, a function each.
 
 pub(crate) fn contract_resumed(deed: &Deed, now: &Day) -> bool
@@ -274,7 +178,8 @@ pub(crate) fn contract_completed(deed: &Deed, now: &Day) -> bool
 // The conditions of a position's events, a function each.
 
 pub(crate) fn exerted(now: &Day, number: u32, position: &Position) -> bool
-    ensures { (deed : _) (moments : _) → result ≡ position_fires deed (moment_of now.now) moments number position.now Kind.Exerted }
+    ensures { (deed : _) (moments : _) → result
+        ≡ position_fires deed (moment_of now.now) moments number position.now Kind.Exerted }
 {
     is_power(position.form)
         && now.asks(number)
@@ -293,7 +198,9 @@ pub(crate) fn triggered(
 ) -> bool
     requires ready { IsReady deed.now before.now now.now }
     requires sound { IsTrue (is_sound_position deed.now position.now) }
-    ensures { result ≡ position_fires deed.now (moment_of now.now) (moments_to before.now now.now) number position.now Kind.Triggered }
+    ensures { result
+        ≡ position_fires deed.now (moment_of now.now) (moments_to before.now now.now) number
+        position.now Kind.Triggered }
 {
     let target = Target::Position(number);
     live(now, position.form)
@@ -311,7 +218,9 @@ pub(crate) fn activated(
 ) -> bool
     requires ready { IsReady deed.now before.now now.now }
     requires sound { IsTrue (is_sound_position deed.now position.now) }
-    ensures { result ≡ position_fires deed.now (moment_of now.now) (moments_to before.now now.now) number position.now Kind.Activated }
+    ensures { result
+        ≡ position_fires deed.now (moment_of now.now) (moments_to before.now now.now) number
+        position.now Kind.Activated }
 {
     live(now, position.form)
         && awaits(now, Target::Position(number))
@@ -320,7 +229,8 @@ pub(crate) fn activated(
 
 pub(crate) fn resumed(deed: &Deed, now: &Day, number: u32) -> bool
     requires { length deed.now.positions < 2 ^ 32 }
-    ensures { (moments : _) (p : _) → result ≡ position_fires deed.now (moment_of now.now) moments number p Kind.Resumed }
+    ensures { (moments : _) (p : _) → result
+        ≡ position_fires deed.now (moment_of now.now) moments number p Kind.Resumed }
 {
     let target = Target::Position(number);
     was(now, target, StateOf::Suspension) && by(deed, now, Verb::Resumes, target)
@@ -328,7 +238,8 @@ pub(crate) fn resumed(deed: &Deed, now: &Day, number: u32) -> bool
 
 pub(crate) fn suspended(deed: &Deed, now: &Day, number: u32) -> bool
     requires { length deed.now.positions < 2 ^ 32 }
-    ensures { (moments : _) (p : _) → result ≡ position_fires deed.now (moment_of now.now) moments number p Kind.Suspended }
+    ensures { (moments : _) (p : _) → result
+        ≡ position_fires deed.now (moment_of now.now) moments number p Kind.Suspended }
 {
     let target = Target::Position(number);
     in_force(now, target)
@@ -339,7 +250,9 @@ pub(crate) fn suspended(deed: &Deed, now: &Day, number: u32) -> bool
 fn duty_is_true(deed: &Deed, now: &Day, before: &[Day], form: Form, goal: &Goal) -> bool
     requires ready { IsReady deed.now before.now now.now }
     requires sound { IsTrue (is_sound_goal deed.now form goal.now) }
-    ensures { result ≡ duty_is is_true deed.now.unit (moment_of now.now) (moments_to before.now now.now) goal.now }
+    ensures { result
+        ≡ duty_is is_true deed.now.unit (moment_of now.now) (moments_to before.now now.now)
+        goal.now }
 {
     match goal {
         Goal::Duty(consequent) => is_true(verdict(deed, now, before, consequent)),
@@ -350,7 +263,9 @@ fn duty_is_true(deed: &Deed, now: &Day, before: &[Day], form: Form, goal: &Goal)
 fn duty_is_false(deed: &Deed, now: &Day, before: &[Day], form: Form, goal: &Goal) -> bool
     requires ready { IsReady deed.now before.now now.now }
     requires sound { IsTrue (is_sound_goal deed.now form goal.now) }
-    ensures { result ≡ duty_is is_false deed.now.unit (moment_of now.now) (moments_to before.now now.now) goal.now }
+    ensures { result
+        ≡ duty_is is_false deed.now.unit (moment_of now.now) (moments_to before.now now.now)
+        goal.now }
 {
     match goal {
         Goal::Duty(consequent) => is_false(verdict(deed, now, before, consequent)),
@@ -367,7 +282,9 @@ pub(crate) fn fulfilled(
 ) -> bool
     requires ready { IsReady deed.now before.now now.now }
     requires sound { IsTrue (is_sound_position deed.now position.now) }
-    ensures { result ≡ position_fires deed.now (moment_of now.now) (moments_to before.now now.now) number position.now Kind.Fulfilled }
+    ensures { result
+        ≡ position_fires deed.now (moment_of now.now) (moments_to before.now now.now) number
+        position.now Kind.Fulfilled }
 {
     is_obligation(position.form)
         && stays_due(now, Target::Position(number), position.form)
@@ -383,7 +300,9 @@ pub(crate) fn violated(
 ) -> bool
     requires ready { IsReady deed.now before.now now.now }
     requires sound { IsTrue (is_sound_position deed.now position.now) }
-    ensures { result ≡ position_fires deed.now (moment_of now.now) (moments_to before.now now.now) number position.now Kind.Violated }
+    ensures { result
+        ≡ position_fires deed.now (moment_of now.now) (moments_to before.now now.now) number
+        position.now Kind.Violated }
 {
     is_obligation(position.form)
         && stays_due(now, Target::Position(number), position.form)
@@ -399,7 +318,9 @@ pub(crate) fn expired(
 ) -> bool
     requires ready { IsReady deed.now before.now now.now }
     requires sound { IsTrue (is_sound_position deed.now position.now) }
-    ensures { result ≡ position_fires deed.now (moment_of now.now) (moments_to before.now now.now) number position.now Kind.Expired }
+    ensures { result
+        ≡ position_fires deed.now (moment_of now.now) (moments_to before.now now.now) number
+        position.now Kind.Expired }
 {
     live(now, position.form)
         && awaits(now, Target::Position(number))
@@ -409,7 +330,8 @@ pub(crate) fn expired(
 
 pub(crate) fn discharged(deed: &Deed, now: &Day, number: u32, position: &Position) -> bool
     requires { length deed.now.positions < 2 ^ 32 }
-    ensures { (moments : _) → result ≡ position_fires deed.now (moment_of now.now) moments number position.now Kind.Discharged }
+    ensures { (moments : _) → result
+        ≡ position_fires deed.now (moment_of now.now) moments number position.now Kind.Discharged }
 {
     let target = Target::Position(number);
     is_obligation(position.form) && alive(now, target) && by(deed, now, Verb::Discharges, target)
@@ -417,7 +339,8 @@ pub(crate) fn discharged(deed: &Deed, now: &Day, number: u32, position: &Positio
 
 pub(crate) fn terminated(deed: &Deed, now: &Day, number: u32, position: &Position) -> bool
     requires { length deed.now.positions < 2 ^ 32 }
-    ensures { (moments : _) → result ≡ position_fires deed.now (moment_of now.now) moments number position.now Kind.Terminated }
+    ensures { (moments : _) → result
+        ≡ position_fires deed.now (moment_of now.now) moments number position.now Kind.Terminated }
 {
     let target = Target::Position(number);
     alive(now, target)

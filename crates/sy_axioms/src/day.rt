@@ -1,4 +1,4 @@
-ghost use Rattle.std.specs.Prelude.{◌≡◌, ◌&&◌, ◌↔◌, IsTrue, IfOk, int_lt, int_le, not};
+ghost use Rattle.std.specs.Prelude.{[], ◌≡◌, ◌&&◌, ◌↔◌, IsTrue, IfOk, int_lt, int_le, not};
 ghost use Rattle.std.specs.List.{list_any};
 ghost use Rattle.sy_core.specs.States.{same_state};
 ghost use Rattle.sy_core.specs.Propositions.{situation_holds};
@@ -65,6 +65,16 @@ pub(crate) struct Day {
 }
 
 impl Events {
+    /// No event happens.
+    pub fn none(alloc: Global) -> Events
+        ensures { result ≡ record { contract = NOTHING; positions = [] } }
+    {
+        Events {
+            contract: NOTHING,
+            positions: List::new(alloc),
+        }
+    }
+
     /// Whether the events are the same. So `==` answers too.
     pub fn is_same(&self, other: &Events) -> bool
         ensures { IsTrue result ↔ (self.now ≡ other.now) }
@@ -134,7 +144,8 @@ fn is_exertion(power: u32, what: &What) -> bool
 impl Day {
     /// The kinds of internal event that happen to the position with this number.
     pub fn fired_at(&self, position: u32) -> Fired
-        ensures { (kind : _) → has result kind ≡ (moment_of self.now).seen (Ev.Inner kind (Target.Position position)) }
+        ensures { (kind : _) → has result kind
+            ≡ (moment_of self.now).seen (Ev.Inner kind (Target.Position position)) }
     {
         match self.events.positions.items().get(position as usize) {
             None => NOTHING,
@@ -221,13 +232,17 @@ impl Day {
     }
 
     pub fn sees_between(&self, ev: &Ev, from: Point, to: Point) -> bool
-        ensures { result ≡ ((moment_of self.now).seen ev.now && (int_le from self.now.point && int_lt self.now.point to)) }
+        ensures { result
+            ≡ ((moment_of self.now).seen ev.now
+            && (int_le from self.now.point && int_lt self.now.point to)) }
     {
         self.sees(ev) && from <= self.point && self.point < to
     }
 
     pub fn fails_between(&self, situation: Situation, from: Point, to: Point) -> bool
-        ensures { result ≡ ((int_le from self.now.point && int_lt self.now.point to) && not (situation_holds situation (moment_of self.now))) }
+        ensures { result
+            ≡ ((int_le from self.now.point && int_lt self.now.point to)
+            && not (situation_holds situation (moment_of self.now))) }
     {
         from <= self.point && self.point < to && !self.holds(situation)
     }

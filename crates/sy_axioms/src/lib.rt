@@ -2,6 +2,7 @@
 //! stand. It is slow, and it is what faster evaluators are held against.
 #![tactic(auto)]
 
+mod completion;
 mod condition;
 mod day;
 mod plain;

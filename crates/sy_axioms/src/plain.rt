@@ -42,7 +42,8 @@ impl Plain {
     /// An evaluator that stands at the deed's start.
     pub fn new(alloc: Global, deed: &Deed) -> Result<Plain, Memory>
         requires { IsSound deed.now }
-        ensures start { IfOk result (λ plain. (narrative : List Happening) → StandsFor plain deed.now narrative 0) }
+        ensures start { IfOk result
+            (λ plain. (narrative : List Happening) → StandsFor plain deed.now narrative 0) }
         ensures made { IfOk result (λ plain. IsMadeFor plain deed.now) }
         ensures point { IfOk result (λ plain. next_point plain ≡ deed.now.start) }
     {
@@ -60,7 +61,8 @@ impl Plain {
     /// The point that is evaluated next.
     pub fn now(&self) -> Point
         ensures point { result ≡ next_point self.now }
-        ensures stands { (deed : Deed) (narrative : List Happening) (n : ℕ) → StandsFor self.now deed narrative n
+        ensures stands { (deed : Deed) (narrative : List Happening) (n : ℕ)
+            → StandsFor self.now deed narrative n
             → result ≡ deed.start +ℤ pos n }
     {
         self.point
@@ -68,7 +70,8 @@ impl Plain {
 
     /// The states of the positions now, in their order.
     pub fn states(&self) -> &[StateOf]
-        ensures { (deed : Deed) (narrative : List Happening) (n : ℕ) → StandsFor self.now deed narrative n
+        ensures { (deed : Deed) (narrative : List Happening) (n : ℕ)
+            → StandsFor self.now deed narrative n
             → result.now ≡ states_of (state_at deed narrative n) 0 deed.positions }
     {
         self.states.positions.items()
@@ -76,7 +79,8 @@ impl Plain {
 
     /// The contract's state now.
     pub fn contract(&self) -> StateOf
-        ensures { (deed : Deed) (narrative : List Happening) (n : ℕ) → StandsFor self.now deed narrative n
+        ensures { (deed : Deed) (narrative : List Happening) (n : ℕ)
+            → StandsFor self.now deed narrative n
             → result ≡ state_at deed narrative n Target.Contract }
     {
         self.states.contract
@@ -85,9 +89,11 @@ impl Plain {
     /// Whether the internal event happened at the last point that was evaluated. Before the first one
     /// none did.
     pub fn happened(&self, kind: Kind, target: Target) -> bool
-        ensures none { (deed : Deed) (narrative : List Happening) → StandsFor self.now deed narrative 0
+        ensures none { (deed : Deed) (narrative : List Happening)
+            → StandsFor self.now deed narrative 0
             → result ≡ false }
-        ensures last { (deed : Deed) (narrative : List Happening) (n : ℕ) → StandsFor self.now deed narrative (suc n)
+        ensures last { (deed : Deed) (narrative : List Happening) (n : ℕ)
+            → StandsFor self.now deed narrative (suc n)
             → result ≡ (moment_at deed narrative n).seen (Inner kind target) }
     {
         match self.days.items().split_last() {
@@ -104,9 +110,11 @@ impl Plain {
         requires post { number < length deed.now.posts }
         ensures none { (narrative : List Happening) → StandsFor self.now deed.now narrative 0
             → result ≡ Verdict.Open }
-        ensures last { (narrative : List Happening) (n : ℕ) (prop : Prop) → StandsFor self.now deed.now narrative (suc n)
+        ensures last { (narrative : List Happening) (n : ℕ) (prop : Prop)
+            → StandsFor self.now deed.now narrative (suc n)
             → slice_get deed.now.posts number ≡ Some prop
-            → result ≡ verdict_at deed.now.unit (moment_at deed.now narrative n) (chronicle deed.now narrative n) prop }
+            → result ≡ verdict_at deed.now.unit (moment_at deed.now narrative n)
+            (chronicle deed.now narrative n) prop }
     {
         match self.days.items().split_last() {
             None => Verdict::Open,

@@ -42,7 +42,9 @@ fn contract_round(deed: &Deed, now: &Day) -> Fired
 fn position_round(deed: &Deed, now: &Day, before: &[Day], number: u32, position: &Position) -> Fired
     requires ready { IsReady deed.now before.now now.now }
     requires sound { IsTrue (is_sound_position deed.now position.now) }
-    ensures { result ≡ fired_by (position_fires deed.now (moment_of now.now) (moments_to before.now now.now) number position.now) }
+    ensures { result
+        ≡ fired_by (position_fires deed.now (moment_of now.now) (moments_to before.now now.now)
+        number position.now) }
 {
     Fired {
         exerted: condition::exerted(now, number, position),
@@ -66,7 +68,10 @@ fn positions_round(
     before: &[Day],
 ) -> Result<List<Fired>, Memory>
     requires { IsReady deed.now before.now now.now }
-    ensures { IfOk result (λ fired. fired ≡ fired_from deed.now (moment_of now.now) (moments_to before.now now.now) 0 deed.now.positions) }
+    ensures { IfOk result
+        (λ fired. fired
+        ≡ fired_from deed.now (moment_of now.now) (moments_to before.now now.now) 0
+        deed.now.positions) }
 {
     let mut fired = List::new(alloc);
     let mut number = 0;
@@ -80,7 +85,8 @@ fn positions_round(
 /// One round: the events whose conditions are true now.
 fn next_round(alloc: Global, deed: &Deed, now: &Day, before: &[Day]) -> Result<Events, Memory>
     requires { IsReady deed.now before.now now.now }
-    ensures { IfOk result (λ events. events ≡ round_of deed.now (moment_of now.now) (moments_to before.now now.now)) }
+    ensures { IfOk result
+        (λ events. events ≡ round_of deed.now (moment_of now.now) (moments_to before.now now.now)) }
 {
     Ok(Events {
         contract: contract_round(deed, now),
@@ -97,15 +103,16 @@ pub(crate) fn with_events(
     before: &[Day],
 ) -> Result<Day, Memory>
     requires { IsReady deed.now before.now day }
-    ensures moment { IfOk result (λ now. moment_of now ≡ assuming day.point day.whats (state_in day.states) (internal_events deed.now day.point day.whats (state_in day.states) (map moment_of before.now))) }
+    ensures moment { IfOk result
+        (λ now. moment_of now
+        ≡ assuming day.point day.whats (state_in day.states)
+        (internal_events deed.now day.point day.whats (state_in day.states)
+        (map moment_of before.now))) }
     ensures point { IfOk result (λ now. now.point ≡ day.point) }
 {
     let count = count_events(deed);
     let mut now = day;
-    now.events = Events {
-        contract: NOTHING,
-        positions: List::new(alloc),
-    };
+    now.events = Events::none(alloc);
     for round in 0..count {
         let events = next_round(alloc, deed, &now, before)?;
         if events.is_same(&now.events) {

@@ -125,7 +125,8 @@ fn contract_after(now: &Day) -> StateOf
 
 fn positions_after(alloc: Global, deed: &Deed, now: &Day) -> Result<List<StateOf>, Memory>
     requires { length deed.now.positions < 2 ^ 32 }
-    ensures { IfOk result (λ states. states ≡ next_states (moment_of now.now) 0 deed.now.positions) }
+    ensures { IfOk result
+        (λ states. states ≡ next_states (moment_of now.now) 0 deed.now.positions) }
 {
     let mut states = List::new(alloc);
     let mut number = 0;

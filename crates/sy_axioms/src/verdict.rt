@@ -168,7 +168,9 @@ fn within(
     requires ready { IsReady deed.now before.now now.now }
     requires from { IsTrue (is_sound_date deed.now from.now) }
     requires to { IsTrue (is_sound_date deed.now to.now) }
-    ensures { result ≡ verdict_step deed.now.unit (moment_of now.now) (moments_to before.now now.now) (PropOpen.Within ev.now from.now to.now) }
+    ensures { result
+        ≡ verdict_step deed.now.unit (moment_of now.now) (moments_to before.now now.now)
+        (PropOpen.Within ev.now from.now to.now) }
 {
     let from = date_value(deed, now, before, from);
     let to = date_value(deed, now, before, to);
@@ -191,7 +193,9 @@ fn occurs(
     requires ready { IsReady deed.now before.now now.now }
     requires from { IsTrue (is_sound_date deed.now from.now) }
     requires to { IsTrue (is_sound_date deed.now to.now) }
-    ensures { result ≡ verdict_step deed.now.unit (moment_of now.now) (moments_to before.now now.now) (PropOpen.Occurs situation from.now to.now) }
+    ensures { result
+        ≡ verdict_step deed.now.unit (moment_of now.now) (moments_to before.now now.now)
+        (PropOpen.Occurs situation from.now to.now) }
 {
     let from = date_value(deed, now, before, from);
     let to = date_value(deed, now, before, to);
@@ -208,7 +212,8 @@ fn occurs(
 pub(crate) fn verdict(deed: &Deed, now: &Day, before: &[Day], prop: &Prop) -> Verdict
     requires ready { IsReady deed.now before.now now.now }
     requires sound { IsTrue (is_sound_prop deed.now prop.now) }
-    ensures { result ≡ verdict_in deed.now.unit (moment_of now.now) (moments_to before.now now.now) prop.now }
+    ensures { result
+        ≡ verdict_in deed.now.unit (moment_of now.now) (moments_to before.now now.now) prop.now }
 {
     match prop {
         Prop::Const(truth) => verdict_by(*truth, !*truth),

@@ -5,7 +5,7 @@ use Rattle.sy_axioms.proofs.rounds.with_events.Goals as goal
 pub loop-round-init : goal.loop-round-init
 loop-round-init c = record {
   ready = record { sound = c.requires.sound; before_dated = c.requires.before_dated; now_dated = c.requires.now_dated };
-  so_far = rw c.new.ensures (before_rounds c.args.deed.now c.args.before.now c.args.day _ refl);
+  so_far = rw c.none.ensures (before_rounds c.args.deed.now c.args.before.now c.args.day _ refl);
 }
 
 pub loop-round-preserved : goal.loop-round-preserved

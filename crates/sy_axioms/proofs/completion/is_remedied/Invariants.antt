@@ -1,7 +1,7 @@
 use Rattle.std.proofs.Common.{◌≡◌, drop}
 use Rattle.sy_core.specs.Conditions.{remedied_from}
 use Rattle.sy_axioms.specs.Days.{moment_of}
-use Rattle.sy_axioms.proofs.condition.is_remedied.Given as goal
+use Rattle.sy_axioms.proofs.completion.is_remedied.Given as goal
 
 abbrev pub invariant-loop-position : goal.invariant-loop-position
 invariant-loop-position l = record {

@@ -1,7 +1,7 @@
 use Rattle.std.proofs.Common.{◌≡◌, drop}
 use Rattle.sy_core.specs.Conditions.{all_settled_from}
 use Rattle.sy_axioms.specs.Days.{moment_of}
-use Rattle.sy_axioms.proofs.condition.all_settled.Given as goal
+use Rattle.sy_axioms.proofs.completion.all_settled.Given as goal
 
 abbrev pub invariant-loop-position : goal.invariant-loop-position
 invariant-loop-position l = record {

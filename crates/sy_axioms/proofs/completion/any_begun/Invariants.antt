@@ -1,7 +1,7 @@
 use Rattle.std.proofs.Common.{◌≡◌, drop}
 use Rattle.sy_core.specs.Conditions.{any_begun_from}
 use Rattle.sy_axioms.specs.Days.{moment_of}
-use Rattle.sy_axioms.proofs.condition.any_begun.Given as goal
+use Rattle.sy_axioms.proofs.completion.any_begun.Given as goal
 
 abbrev pub invariant-loop-position : goal.invariant-loop-position
 invariant-loop-position l = record {
