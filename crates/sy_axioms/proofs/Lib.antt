@@ -6,5 +6,4 @@ pub mod Members
 pub mod Mentions
 pub mod OneRound
 pub mod Passing
-pub mod SoundPayment
 pub mod Verdicts

@@ -3,10 +3,10 @@ ghost use Rattle.sy_core.specs.States.{same_state};
 ghost use Rattle.sy_core.specs.Conditions.{is_awaited, is_settled, is_remedy, next_state, remedied_from, all_settled_from, any_begun_from, is_complete};
 ghost use Rattle.sy_axioms.specs.Days.{moment_of};
 
-use crate::day::{Day, is_same_state};
+use crate::day::Day;
 use crate::remedy::is_remedy;
 use crate::states::next_state;
-use sy_core::{Deed, Form, Position, StateOf, Target};
+use sy_core::{Deed, Form, Position, StateOf, Target, is_same_state};
 
 /// The contract's completion waits for positions of the form.
 fn is_awaited(form: Form) -> bool

@@ -6,10 +6,10 @@ ghost use Rattle.sy_axioms.specs.Days.{moment_of, moments_to};
 ghost use Rattle.sy_axioms.specs.Ready.{IsReady};
 
 use crate::completion::is_complete;
-use crate::day::{Day, is_same_state};
+use crate::day::Day;
 use crate::remedy::{has_holds, is_same_target};
 use crate::verdict::verdict;
-use sy_core::{Deed, Form, Goal, Kind, Position, StateOf, Target, Verb, Verdict};
+use sy_core::{Deed, Form, Goal, Kind, Position, StateOf, Target, Verb, Verdict, is_same_state};
 
 fn is_power(form: Form) -> bool
     ensures { result ≡ is_power form }

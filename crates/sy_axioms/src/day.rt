@@ -1,6 +1,5 @@
 ghost use Rattle.std.specs.Prelude.{[], ◌≡◌, ◌&&◌, ◌↔◌, IsTrue, IfOk, int_lt, int_le, not};
 ghost use Rattle.std.specs.List.{list_any};
-ghost use Rattle.sy_core.specs.States.{same_state};
 ghost use Rattle.sy_core.specs.Propositions.{situation_holds};
 ghost use Rattle.sy_core.specs.Matching.{matches};
 ghost use Rattle.sy_core.specs.Chronicle.{exerts};
@@ -8,7 +7,7 @@ ghost use Rattle.sy_axioms.specs.Days.{has, set_of, state_in, moment_of};
 
 use std::alloc::Global;
 use sy_base::{List, Memory, Point};
-use sy_core::{Ev, Kind, Situation, StateOf, Target, What, matches};
+use sy_core::{Ev, Kind, Situation, StateOf, Target, What, copy_states, is_same_state, matches};
 
 /// Which kinds of internal event happen to one target at a point.
 #[derive(Clone, Copy, Debug, PartialEq, Eq)]
@@ -101,22 +100,6 @@ impl Fired {
             Kind::Completed => self.completed,
         }
     }
-}
-
-pub(crate) fn is_same_state(a: StateOf, b: StateOf) -> bool
-    ensures { result ≡ same_state a b }
-{
-    a as u8 == b as u8
-}
-
-fn copy_states(alloc: Global, states: &[StateOf]) -> Result<List<StateOf>, Memory>
-    ensures { IfOk result (λ copied. copied ≡ states.now) }
-{
-    let mut copied = List::new(alloc);
-    for state in states {
-        copied.push(*state)?;
-    }
-    Ok(copied)
 }
 
 impl States {

@@ -13,6 +13,3 @@ mod step;
 mod verdict;
 
 pub use plain::Plain;
-
-#[cfg(test)]
-mod tests;

@@ -7,10 +7,9 @@ ghost use Rattle.sy_axioms.specs.Ready.{IsReady};
 
 use crate::condition;
 use crate::day::{Day, Events, Fired, NOTHING};
-use crate::states::{contract_kinds, kinds_of};
 use std::alloc::Global;
 use sy_base::{List, Memory};
-use sy_core::{Deed, Position};
+use sy_core::{Deed, Position, contract_kinds, kinds_of};
 
 /// How many internal events the deed has.
 fn count_events(deed: &Deed) -> u64

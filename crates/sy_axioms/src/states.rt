@@ -1,58 +1,12 @@
 ghost use Rattle.std.specs.Prelude.{◌≡◌, ◌+◌, ◌<◌, ◌^◌, IfOk, if◌then◌else◌, length};
-ghost use Rattle.sy_core.specs.States.{kinds_of, contract_kinds, expired_state, state_by, last_state, state_after, contract_after};
+ghost use Rattle.sy_core.specs.States.{expired_state, state_by, last_state, state_after, contract_after};
 ghost use Rattle.sy_core.specs.Conditions.{next_state};
 ghost use Rattle.sy_axioms.specs.Days.{has, moment_of, next_states, states_past};
 
 use crate::day::{Day, Fired, States};
 use std::alloc::Global;
 use sy_base::{List, Memory};
-use sy_core::{Deed, Form, Kind, Position, StateOf, Target};
-
-const OBLIGATION_KINDS: [Kind; 9] = [
-    Kind::Triggered,
-    Kind::Activated,
-    Kind::Resumed,
-    Kind::Suspended,
-    Kind::Fulfilled,
-    Kind::Violated,
-    Kind::Expired,
-    Kind::Discharged,
-    Kind::Terminated,
-];
-
-const POWER_KINDS: [Kind; 7] = [
-    Kind::Exerted,
-    Kind::Triggered,
-    Kind::Activated,
-    Kind::Resumed,
-    Kind::Suspended,
-    Kind::Expired,
-    Kind::Terminated,
-];
-
-const CONTRACT_KINDS: [Kind; 4] = [
-    Kind::Resumed,
-    Kind::Suspended,
-    Kind::Terminated,
-    Kind::Completed,
-];
-
-/// The kinds of internal event of a position of the form, in the order of kinds.
-pub(crate) fn kinds_of(form: Form) -> &'static [Kind]
-    ensures { result.now ≡ kinds_of form }
-{
-    match form {
-        Form::Power => &POWER_KINDS,
-        _ => &OBLIGATION_KINDS,
-    }
-}
-
-/// The kinds of internal event of the contract, in the order of kinds.
-pub(crate) fn contract_kinds() -> &'static [Kind]
-    ensures { result.now ≡ contract_kinds }
-{
-    &CONTRACT_KINDS
-}
+use sy_core::{Deed, Form, Kind, Position, StateOf, Target, contract_kinds, kinds_of};
 
 fn expired_state(form: Form) -> StateOf
     ensures { result ≡ expired_state form }

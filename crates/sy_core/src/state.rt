@@ -1,3 +1,9 @@
+ghost use Rattle.std.specs.Prelude.{◌≡◌, IfOk};
+ghost use Rattle.sy_core.specs.States.{same_state};
+
+use std::alloc::Global;
+use sy_base::{List, Memory};
+
 /// The states of positions and of the contract.
 ///
 /// An obligation is in one of the first seven or in `UnsuccessfulTermination`. A power is in one of
@@ -16,4 +22,22 @@ pub enum StateOf {
     UnsuccessfulTermination,
     /// The contract before its start.
     Form,
+}
+
+/// Whether the states are the same.
+pub fn is_same_state(a: StateOf, b: StateOf) -> bool
+    ensures { result ≡ same_state a b }
+{
+    a as u8 == b as u8
+}
+
+/// Equal states. It fails only for want of memory.
+pub fn copy_states(alloc: Global, states: &[StateOf]) -> Result<List<StateOf>, Memory>
+    ensures { IfOk result (λ copied. copied ≡ states.now) }
+{
+    let mut copied = List::new(alloc);
+    for state in states {
+        copied.push(*state)?;
+    }
+    Ok(copied)
 }

@@ -1,4 +1,4 @@
-use crate::{Cmp, Ev, Guard, Happening, Kind, Target, Value, What, matches};
+use crate::{Cmp, Ev, Guard, Happening, Kind, StateOf, Target, Value, What, copy_states, matches};
 use std::alloc::Global;
 use std::test::Fail;
 use sy_base::{List, Text};
@@ -120,5 +120,15 @@ fn copies(rt: HostRuntime) -> Result<(), Fail> {
     assert_eq!(rt; sale.copy(alloc)?, sale);
     assert_eq!(rt; exertion.copy(alloc)?, exertion);
     assert!(rt; sale.copy(alloc)? != exertion);
+    Ok(())
+}
+
+#[test]
+fn states_are_copied(rt: HostRuntime) -> Result<(), Fail> {
+    let states = [StateOf::InEffect, StateOf::Null];
+    assert_eq!(rt;
+        copy_states(rt.alloc(), &states)?.items(),
+        states.as_slice()
+    );
     Ok(())
 }
