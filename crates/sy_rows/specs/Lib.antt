@@ -1,0 +1,2 @@
+pub mod MeatSale
+pub mod Watched
