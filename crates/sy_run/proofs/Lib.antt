@@ -1,0 +1,11 @@
+pub mod AllNoted
+pub mod Answering
+pub mod Completing
+pub mod FirstDeeds
+pub mod Fitting
+pub mod Marking
+pub mod Monitoring
+pub mod Noting
+pub mod Printable
+pub mod Replying
+pub mod Streaming

@@ -1,0 +1,11 @@
+pub mod Course
+pub mod FirstPath
+pub mod Holding
+pub mod Output
+pub mod Printing
+pub mod Program
+pub mod RefusalText
+pub mod Replies
+pub mod ReportText
+pub mod Stopping
+pub mod Stream

@@ -1,0 +1,37 @@
+//! How a run ends that goes no further.
+ghost use Rattle.std.specs.Prelude.{◌≡◌};
+ghost use Rattle.std.specs.Option.{is_some};
+ghost use Rattle.sy_run.specs.Stream.{StopsWith, WriteCaused};
+ghost use Rattle.sy_run.specs.declared.files.Stop.TheVariants as stop;
+
+use crate::files::Stop;
+use crate::refusal::refusal_text;
+use crate::status::Status;
+use std::alloc::Global;
+use sy_base::{Refusal, Sink, write_all};
+
+// Writes the line of a refusal.
+fn refuse<W: Sink>(alloc: Global, refusal: &Refusal, out: &mut W) -> Status
+    ensures ends { StopsWith (W.held out.old) (W.held out.new) (stop.Refused refusal.now) result }
+    ensures cause { WriteCaused (W.faults out.old) (W.faults out.new) result }
+{
+    let Ok(line) = refusal_text(alloc, refusal) else {
+        return Status::Memory;
+    };
+    match write_all(out, line.bytes()) {
+        Ok(()) => Status::Refused,
+        Err(_) => Status::WriteFault,
+    }
+}
+
+/// Ends a run for this reason. A refusal is written, and nothing else.
+pub(crate) fn end<W: Sink>(alloc: Global, why: &Stop, out: &mut W) -> Status
+    ensures ends { StopsWith (W.held out.old) (W.held out.new) why.now result }
+    ensures cause { WriteCaused (W.faults out.old) (W.faults out.new) result }
+{
+    match why {
+        Stop::ReadFault => Status::ReadFault,
+        Stop::Refused(refusal) => refuse(alloc, refusal, out),
+        Stop::Memory => Status::Memory,
+    }
+}

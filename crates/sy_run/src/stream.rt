@@ -1,0 +1,77 @@
+//! The lines of an input, answered one after the other.
+ghost use Rattle.std.specs.Prelude.{◌≡◌, ◌+◌, List, [], ℕ, IfNone, IfSome, Some};
+ghost use Rattle.std.specs.declared.option.Option.{Option};
+ghost use Rattle.sy_base.specs.Reader.{new_reading};
+ghost use Rattle.sy_run.specs.FirstPath.{IsFirstDeed};
+ghost use Rattle.sy_run.specs.Holding.{Holds};
+ghost use Rattle.sy_run.specs.Program.{IsMonitorStatus};
+ghost use Rattle.sy_run.specs.Stream.{AfterLine, CausedIf, IsReady, SoFar, StreamCaused, StreamEnds, WritesReply};
+
+use crate::log::{Log, reply_next};
+use crate::status::Status;
+use crate::stop::end;
+use std::alloc::Global;
+use sy_base::{LineReader, Sink, Source, Text, write_all};
+use sy_core::Deed;
+
+// Writes what is answered to a line. It answers a status where the stream ends.
+fn write_reply<W: Sink>(text: &Text, out: &mut W) -> Option<Status>
+    ensures written { WritesReply (W.held out.old) (W.held out.new) text.now result }
+    ensures cause { (read : ℕ) → CausedIf read read (W.faults out.old) (W.faults out.new) result }
+{
+    match write_all(out, text.bytes()) {
+        Ok(()) => None,
+        Err(_) => Some(Status::WriteFault),
+    }
+}
+
+// Answers the next line. It answers a status where the stream ends.
+fn one_line<S: Source, W: Sink>(
+    alloc: Global,
+    deed: &Deed,
+    log: &mut Log,
+    reader: &mut LineReader,
+    input: &mut S,
+    out: &mut W,
+) -> Option<Status>
+    requires first { IsFirstDeed deed.now }
+    requires ready { IsReady reader.old log.old.lines }
+    ensures told { (bytes : List ℕ) (first : Option (List ℕ))
+        → SoFar deed.now log.old.entries.points reader.old bytes (S.left input.old) first (W.held out.old)
+        → AfterLine deed.now log.new.entries.points reader.new bytes (S.left input.new) first (W.held out.new) result }
+    ensures cause { CausedIf (S.faults input.old) (S.faults input.new) (W.faults out.old) (W.faults out.new) result }
+    ensures ready { IfNone result (IsReady reader.new log.new.lines) }
+    ensures ascends { IfNone result (log.new.lines ≡ log.old.lines + 1) }
+    ensures status { IfSome result IsMonitorStatus }
+{
+    match reply_next(alloc, deed, log, reader, input) {
+        Ok(Some(text)) => write_reply(&text, out),
+        Ok(None) => Some(Status::Done),
+        Err(why) => Some(end(alloc, &why, out)),
+    }
+}
+
+/// Answers each line of the input, up to its end or to the first refusal.
+pub(crate) fn stream<S: Source, W: Sink>(
+    alloc: Global,
+    deed: &Deed,
+    log: &mut Log,
+    reader: &mut LineReader,
+    input: &mut S,
+    out: &mut W,
+) -> Status
+    requires first { IsFirstDeed deed.now }
+    requires new { reader.old ≡ new_reading }
+    requires none { Holds log.old.entries.points [] }
+    requires counted { log.old.lines ≡ 0 }
+    ensures told { (bytes : List ℕ) → S.left input.old ≡ Some bytes
+        → StreamEnds deed.now bytes (S.left input.new) (W.held out.old) (W.held out.new) result }
+    ensures cause { StreamCaused (S.faults input.old) (S.faults input.new) (W.faults out.old) (W.faults out.new) result }
+    ensures status { IsMonitorStatus result }
+{
+    'lines: loop {
+        if let Some(status) = one_line(alloc, deed, log, reader, input, out) {
+            return status;
+        }
+    }
+}
