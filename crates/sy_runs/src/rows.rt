@@ -1,0 +1,209 @@
+//! Worked rows of the first path.
+
+use crate::case::{BIND, Case, SPEC, outcome};
+use std::test::Fail;
+use sy_run::Status;
+
+const MONITOR: &[&[u8]] = &[b"monitor", b"SPEC", b"BIND"];
+
+const USAGE: &[u8] =
+    b"usage: symboleo compile SPEC | monitor SPEC BIND | check SPEC BIND PROPS BUDGET | certify SPEC BIND PROPS NAME BUDGET | verify SPEC BIND PROPS NAME | replay SPEC BIND PROPS NAME | make SEED COUNT\n";
+
+const KEPT: &[u8] =
+    b"report 2024-03-10\ncontract SuccessfulTermination\nobligation oPay Fulfillment\nend\n";
+
+const BROKEN: &[u8] =
+    b"report 2024-03-11\ncontract InEffect\nobligation oPay Violation\nviolation 2024-03-11 oPay\nend\n";
+
+const EARLY: &[u8] = b"report 2024-02-29\ncontract Form\nobligation oPay Null\nend\n";
+
+#[test]
+fn logs_are_answered(rt: HostRuntime) -> Result<(), Fail> {
+    let table: [(&[u8], Status, &[u8]); 14] = [
+        (b"", Status::Done, b""),
+        (
+            b"at 2024-03-10 happens paid\nreport 2024-03-10\n",
+            Status::Done,
+            KEPT,
+        ),
+        (b"report 2024-03-11", Status::Done, BROKEN),
+        (b"report 2024-02-29\n", Status::Done, EARLY),
+        // Paid on the due date is too late, and what comes later changes nothing.
+        (
+            b"at 2024-03-11 happens paid\nreport 2024-03-11\n",
+            Status::Done,
+            BROKEN,
+        ),
+        (
+            b"at 2024-03-12 happens paid\nreport 2024-03-11\n",
+            Status::Done,
+            BROKEN,
+        ),
+        // Neither the order of entries counts, nor how often one stands there.
+        (
+            b"\nat 2024-03-20 happens paid\nat 2024-03-10 happens paid\nat 2024-03-10 happens paid\nreport 2024-03-10",
+            Status::Done,
+            KEPT,
+        ),
+        (
+            b"at 2024-02-29 happens paid\n",
+            Status::Refused,
+            b"refused log 1 NotYet\n",
+        ),
+        (
+            b"report 2024-02-29\nat 2024-03-10 happens  paid\nreport 2024-03-11\n",
+            Status::Refused,
+            b"report 2024-02-29\ncontract Form\nobligation oPay Null\nend\nrefused log 2 NotYet\n",
+        ),
+        (
+            b"report 2024-03-0",
+            Status::Refused,
+            b"refused log 1 NotYet\n",
+        ),
+        (
+            b"report 2024-02-30\n",
+            Status::Refused,
+            b"refused log 1 NotYet\n",
+        ),
+        (
+            b"report 3000-01-01\n",
+            Status::Refused,
+            b"refused log 1 NotYet\n",
+        ),
+        (
+            b"report 2024-03-11T00\n",
+            Status::Refused,
+            b"refused log 1 NotYet\n",
+        ),
+        (
+            b"at 2024-03-10 exert pHold\n",
+            Status::Refused,
+            b"refused log 1 NotYet\n",
+        ),
+    ];
+    for (input, status, out) in table {
+        for most in [1, 7, 100_000] {
+            let case = Case {
+                words: MONITOR,
+                spec: SPEC,
+                bind: BIND,
+                input,
+                most,
+                failing_read_of_file: 0,
+                failing_read: 0,
+                failing_write: 0,
+            };
+            let ran = outcome(rt.alloc(), &case)?;
+            assert_eq!(rt; ran.status, status);
+            assert_eq!(rt; ran.out.bytes(), out);
+        }
+    }
+    Ok(())
+}
+
+#[test]
+fn words_and_files_are_refused(rt: HostRuntime) -> Result<(), Fail> {
+    let big = vec![in rt.alloc(); b' '; 1_048_577]?;
+    let limit = vec![in rt.alloc(); b' '; 1_048_576]?;
+    let table: [(&[&[u8]], &[u8], &[u8], Status, &[u8]); 10] = [
+        (&[], SPEC, BIND, Status::Usage, USAGE),
+        (&[b"monitor", b"SPEC"], SPEC, BIND, Status::Usage, USAGE),
+        (
+            &[b"compile", b"SPEC", b"BIND"],
+            SPEC,
+            BIND,
+            Status::Usage,
+            USAGE,
+        ),
+        (
+            &[b"monitor", b"NONE", b"BIND"],
+            SPEC,
+            BIND,
+            Status::ReadFault,
+            b"",
+        ),
+        (
+            &[b"monitor", b"SPEC", b"NONE"],
+            SPEC,
+            BIND,
+            Status::ReadFault,
+            b"",
+        ),
+        (
+            MONITOR,
+            b"Domain s\n",
+            b"start",
+            Status::Refused,
+            b"refused spec NotYet\n",
+        ),
+        (
+            MONITOR,
+            SPEC,
+            b"start 2024-03-01\n",
+            Status::Refused,
+            b"refused bind NotYet\n",
+        ),
+        (
+            MONITOR,
+            &big,
+            BIND,
+            Status::Refused,
+            b"refused spec TooBig\n",
+        ),
+        (
+            MONITOR,
+            &limit,
+            BIND,
+            Status::Refused,
+            b"refused spec NotYet\n",
+        ),
+        (
+            MONITOR,
+            SPEC,
+            &big,
+            Status::Refused,
+            b"refused bind TooBig\n",
+        ),
+    ];
+    for (words, spec, bind, status, out) in table {
+        let case = Case {
+            words,
+            spec,
+            bind,
+            input: b"",
+            most: 100,
+            failing_read_of_file: 0,
+            failing_read: 0,
+            failing_write: 0,
+        };
+        let ran = outcome(rt.alloc(), &case)?;
+        assert_eq!(rt; ran.status, status);
+        assert_eq!(rt; ran.out.bytes(), out);
+    }
+    Ok(())
+}
+
+#[test]
+fn long_lines_are_refused(rt: HostRuntime) -> Result<(), Fail> {
+    let mut input = vec![in rt.alloc(); b' '; 4096]?;
+    for (out, longer) in [
+        (b"refused log 1 NotYet\n".as_slice(), b' '),
+        (b"refused log 1 TooLong\n".as_slice(), b' '),
+    ] {
+        let case = Case {
+            words: MONITOR,
+            spec: SPEC,
+            bind: BIND,
+            input: &input,
+            most: 100_000,
+            failing_read_of_file: 0,
+            failing_read: 0,
+            failing_write: 0,
+        };
+        let ran = outcome(rt.alloc(), &case)?;
+        assert_eq!(rt; ran.status, Status::Refused);
+        assert_eq!(rt; ran.out.bytes(), out);
+        input.push(longer)?;
+    }
+    Ok(())
+}
