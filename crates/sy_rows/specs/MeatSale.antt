@@ -1,5 +1,5 @@
 -- The deed of a meat sale: the goods are to be delivered, then paid, or else paid later with more. Points are days since 1970-01-01.
-use Rattle.std.specs.Prelude.{ℕ, ◌+◌, ℤ, pos, true, List, [], ◌∷◌, codes}
+use Rattle.std.specs.Prelude.{ℕ, ℤ, pos, true, List, [], ◌∷◌, codes}
 use Rattle.sy_base.specs.declared.time.TimeUnit.TheVariants.{Day}
 use Rattle.sy_base.specs.declared.time.Measure.TheVariants.{Days}
 use Rattle.sy_core.specs.declared.kind.Kind.TheVariants.{Violated, Suspended}
