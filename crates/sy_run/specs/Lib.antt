@@ -1,4 +1,5 @@
 pub mod Course
+pub mod ExitNumbers
 pub mod FirstPath
 pub mod Holding
 pub mod Output
