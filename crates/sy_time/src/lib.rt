@@ -13,3 +13,4 @@ mod written;
 pub use date::{DateFault, read_date};
 pub use duration::add;
 pub use write::write_date;
+pub use written::has_date_form;

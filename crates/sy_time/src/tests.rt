@@ -2,7 +2,7 @@ ghost use Rattle.std.specs.Prelude.{◌≡◌};
 ghost use Rattle.sy_base.specs.Points.{IsDated};
 
 use crate::DateFault::{NoSuchDay, OutOfRange, Shape, TooFine};
-use crate::{DateFault, add, read_date, write_date};
+use crate::{DateFault, add, has_date_form, read_date, write_date};
 use sy_base::TimeUnit::{Day, Hour, Minute};
 use sy_base::{Duration, Measure, Point, TimeUnit};
 
@@ -51,6 +51,26 @@ fn reads_dates(rt: HostRuntime) {
     ];
     for (unit, text, answer) in cases {
         assert_eq!(rt; read_date(unit, text.as_bytes()), answer, "{text}");
+    }
+}
+
+#[test]
+fn knows_the_form_of_a_date(rt: HostRuntime) {
+    let cases = [
+        ("2024-03-01", true),
+        ("2024-03-01T09", true),
+        ("2024-03-01T09:30", true),
+        ("9999-99-99T99:99", true),
+        ("", false),
+        ("2024-03-0", false),
+        ("2024-03-011", false),
+        ("2024-03-01T", false),
+        ("2024-03-01T0930", false),
+        ("2024-03-01t09", false),
+        ("2024-03-01T09:3", false),
+    ];
+    for (text, answer) in cases {
+        assert_eq!(rt; has_date_form(text.as_bytes()), answer, "{text}");
     }
 }
 

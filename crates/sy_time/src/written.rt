@@ -1,4 +1,4 @@
-ghost use Rattle.std.specs.Prelude.{◌≡◌, ◌<◌, IfSome};
+ghost use Rattle.std.specs.Prelude.{◌≡◌, ◌<◌, IfSome, is_some};
 ghost use Rattle.sy_base.specs.Dates.{time_text, written_date};
 
 use crate::digits::{read_four, read_two};
@@ -82,4 +82,12 @@ pub(crate) fn read_written(bytes: &[u8]) -> Option<WrittenDate>
         day: read_two(*g, *h)?,
         time: read_time(rest)?,
     })
+}
+
+/// Whether the bytes have the form of a date's text: `dddd-dd-dd`, `dddd-dd-ddTdd` or
+/// `dddd-dd-ddTdd:dd`, where each `d` is a digit. It says nothing of the calendar.
+pub fn has_date_form(bytes: &[u8]) -> bool
+    ensures { result ≡ is_some (written_date bytes.now) }
+{
+    read_written(bytes).is_some()
 }
