@@ -1,0 +1,11 @@
+pub mod Begins
+pub mod Dates
+pub mod Firsts
+pub mod Inside
+pub mod SignTexts
+pub mod Spots
+pub mod Stands
+pub mod Steps
+pub mod Strings
+pub mod Whole
+pub mod Words

@@ -1,0 +1,7 @@
+pub mod Bytes
+pub mod Keywords
+pub mod Signs
+pub mod Forms
+pub mod Tokens
+pub mod Cutting
+pub mod Room

@@ -1,0 +1,18 @@
+//! Texts cut into tokens.
+#![tactic(auto)]
+
+mod bytes;
+mod cut;
+mod keyword;
+mod sign;
+mod spot;
+mod step;
+mod string;
+#[cfg(test)]
+mod tests;
+mod token;
+
+pub use cut::tokens;
+pub use keyword::Keyword;
+pub use sign::Sign;
+pub use token::{Token, TokenKind};
