@@ -1,4 +1,5 @@
-ghost use Rattle.std.specs.Prelude.{Some};
+ghost use Rattle.std.specs.Prelude.{◌≡◌, Some};
+ghost use Rattle.sy_base.specs.declared.refusal.Refused.TheVariants.{Memory as Wanting};
 ghost use Rattle.sy_base.specs.Refusals.{fault_word, file_word};
 
 use crate::{Memory, Text};
@@ -140,6 +141,8 @@ pub enum Refused {
 }
 
 impl From<Memory> for Refused {
+    ghost from_gives = { λ _ refused. refused ≡ Wanting };
+
     fn from(_: Memory) -> Refused {
         Refused::Memory
     }
