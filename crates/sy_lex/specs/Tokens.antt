@@ -2,6 +2,7 @@
 use Rattle.std.specs.Prelude.{ℕ, ◌≡◌, ◌+◌, ◌<◌, ◌≤◌, true, if◌then◌else◌, List, [], ◌∷◌, length, take, drop, slice_index, Result, Ok, Err, IsSome}
 use Rattle.std.specs.List.{prefix_len}
 use Rattle.sy_base.specs.declared.refusal.FileKind.{FileKind}
+use Rattle.sy_base.specs.declared.refusal.Place.{Place}
 use Rattle.sy_base.specs.declared.refusal.FaultName.TheVariants.{LexFault}
 use Rattle.sy_base.specs.declared.refusal.Refused.{Refused}
 use Rattle.sy_base.specs.declared.refusal.Refused.TheVariants as R
@@ -30,6 +31,10 @@ next_spot at b =
 unfoldable pub spot_after : Spot → List ℕ → Spot
 spot_after at [] = at
 spot_after at (b ∷ bs) = spot_after (next_spot at b) bs
+
+-- where the byte behind a text would stand
+abbrev pub end_of : List ℕ → Place
+end_of source = (spot_after first_spot source).place
 
 -- the bytes begin with a date
 abbrev pub BeginsDate : List ℕ → Type 0

@@ -15,4 +15,5 @@ mod token;
 pub use cut::tokens;
 pub use keyword::Keyword;
 pub use sign::Sign;
+pub use spot::end_place;
 pub use token::{Token, TokenKind};

@@ -1,5 +1,5 @@
-ghost use Rattle.std.specs.Prelude.{ℕ, ◌≡◌, ◌+◌, length};
-ghost use Rattle.sy_lex.specs.Tokens.{first_spot, next_spot, spot_after, token_at};
+ghost use Rattle.std.specs.Prelude.{ℕ, ◌≡◌, ◌+◌, ◌<◌, ◌^◌, length};
+ghost use Rattle.sy_lex.specs.Tokens.{end_of, first_spot, next_spot, spot_after, token_at};
 ghost use Rattle.sy_lex.specs.Room.{HasRoom};
 
 use crate::{Token, TokenKind};
@@ -71,4 +71,13 @@ impl Spot {
             place: self.place,
         }
     }
+}
+
+/// Where the byte behind a text would stand: one past its last. Behind a last newline that is
+/// column 1 of the next line.
+pub fn end_place(text: &[u8]) -> Place
+    requires few { length text.now < 2 ^ 32 }
+    ensures { result ≡ end_of text.now }
+{
+    Spot::first().after(text).place
 }

@@ -1,7 +1,7 @@
 ghost use Rattle.std.specs.Prelude.{◌<◌, ◌^◌, length};
 
 use crate::TokenKind::{Date, Number, Reserved, Sign as ASign, Str, Word};
-use crate::{Keyword, Sign, Token, TokenKind, tokens};
+use crate::{Keyword, Sign, Token, TokenKind, end_place, tokens};
 use std::alloc::Global;
 use std::test::Fail;
 use sy_base::{FileKind, Place, Refused};
@@ -200,6 +200,15 @@ fn refuses_texts_without_tokens(rt: HostRuntime) {
             refused_at(rt.alloc(), source),
             Some(Place { line, column })
         );
+    }
+}
+
+#[test]
+fn knows_where_texts_end(rt: HostRuntime) {
+    let cases: [(&[u8], u64, u64); 3] = [(b"", 1, 1), (b"a\n", 2, 1), (b"ab", 1, 3)];
+    for (source, line, column) in cases {
+        assert!(rt; source.len() < 1000);
+        assert_eq!(rt; end_place(source), Place { line, column });
     }
 }
 
