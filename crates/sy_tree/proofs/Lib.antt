@@ -1,0 +1,13 @@
+pub mod PrintedWords
+pub mod BlankBehind
+pub mod PrintedLexes
+pub mod Prints
+pub mod PrintsRules
+pub mod PrintsTerms
+pub mod PrintsFirst
+pub mod PropositionFolds
+pub mod PrintsPropositions
+pub mod PrintsLevels
+pub mod PrintsSpecifications
+pub mod PrintedSpelling
+pub mod ReadingBack

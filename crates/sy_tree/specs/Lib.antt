@@ -1,0 +1,10 @@
+pub mod Lexemes
+pub mod Grammar
+pub mod Terms
+pub mod Propositions
+pub mod Specifications
+pub mod Bindings
+pub mod Spelling
+pub mod CanonicalText
+pub mod Equality
+pub mod ReadingBack
