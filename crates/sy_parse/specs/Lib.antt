@@ -1,0 +1,5 @@
+pub mod ReadingTerms
+pub mod ReadingPropositions
+pub mod ReadingSpecifications
+pub mod ReadingBindings
+pub mod Faults

@@ -1,0 +1,4 @@
+pub mod Loops
+pub mod Agree
+pub mod AgreeMany
+pub mod AgreeChoices
