@@ -9,3 +9,5 @@ pub mod Noting
 pub mod Printable
 pub mod Replying
 pub mod Streaming
+pub mod Texts
+pub mod Words

@@ -1,6 +1,6 @@
 -- The texts that are read so far: one specification, with any due date; its binding, with any start;
 -- and the lines of its log.
-use Rattle.std.specs.Prelude.{◌≡◌, ℕ, ◌-◌, true, nat_eq, if◌then◌else◌, List, [], ◌∷◌, length, take, drop, Some, None, codes, unwrap_or, option_and_then, ℤ, int_lt, ⊤}
+use Rattle.std.specs.Prelude.{◌≡◌, ℕ, ◌-◌, true, nat_eq, if◌then◌else◌, List, [], ◌∷◌, length, take, drop, Some, None, codes, option_and_then, ℤ, int_lt, ⊤}
 use Rattle.std.specs.declared.option.Option.{Option}
 use Rattle.std.specs.Option.{option_map}
 use Rattle.std.specs.Result.{result_ok}
@@ -15,6 +15,11 @@ use Rattle.sy_core.specs.declared.event.Ev.TheVariants.{Outer}
 use Rattle.sy_core.specs.declared.date_term.Base.TheVariants.{Fixed}
 use Rattle.sy_core.specs.declared.proposition.Prop.{Prop}
 use Rattle.sy_core.specs.declared.proposition.Prop.TheVariants.{Const, Before}
+use Rattle.sy_tree.specs.CanonicalText.{canonical_text}
+use Rattle.sy_tree.specs.declared.binding.BindTree.{BindTree}
+use Rattle.sy_tree.specs.declared.binding.GivenTree.{GivenTree}
+use Rattle.sy_tree.specs.declared.contract.SpecTree.{SpecTree}
+use Rattle.sy_tree.specs.declared.written.Written.{Written}
 use Rattle.sy_run.specs.declared.first_path.Entry.{Entry}
 use Rattle.sy_run.specs.declared.first_path.Entry.TheVariants.{Blank, Paid, Report}
 
@@ -36,20 +41,25 @@ date_between head tail bytes =
     option_and_then (λ date. result_ok (date_of Day date))
     (option_and_then (ahead_of tail) (behind head bytes))
 
--- the bytes without their last newline, where they have one
-abbrev pub without_newline : List ℕ → List ℕ
-without_newline bytes = unwrap_or (ahead_of (10 ∷ []) bytes) bytes
-
--- the due date of the specification's obligation, if the bytes are this text
-abbrev pub due_date : List ℕ → Option ℤ
-due_date bytes =
+-- the due date of the specification's obligation, if the bytes are this canonical text
+abbrev pub due_date_in : List ℕ → Option ℤ
+due_date_in bytes =
     date_between
-    (codes "Domain s\nParty isA Role;\nPaid isAn Event;\nendDomain\nContract S() unit Day\nDeclarations\na: Party;\nb: Party;\npaid: Paid;\nObligations\noPay: O(a, b, true, happensBefore(paid, ")
-    (codes "));\nendContract") (without_newline bytes)
+    (codes "Domain s\nParty isA Role ;\nPaid isA Event ;\nendDomain\nContract S ( ) unit Day\nDeclarations\na : Party ;\nb : Party ;\npaid : Paid ;\nObligations\noPay : O ( a , b , true , happensBefore ( paid , ")
+    (codes " ) ) ;\nendContract\n") bytes
 
--- the start of the binding, if the bytes are this text
-abbrev pub start_date : List ℕ → Option ℤ
-start_date bytes = date_between (codes "start ") (codes ";") (without_newline bytes)
+-- the due date of a specification's obligation, if its canonical text is this one
+abbrev pub due_date : SpecTree → Option ℤ
+due_date tree = due_date_in (canonical_text tree)
+
+-- the start where nothing else is bound
+abbrev pub start_alone : Written → List GivenTree → Option ℤ
+start_alone start [] = result_ok (date_of Day start.text)
+start_alone start (given ∷ others) = None
+
+-- the start of a binding that binds nothing else
+abbrev pub start_date : BindTree → Option ℤ
+start_date tree = start_alone tree.start tree.parameters
 
 -- a payment, which isn't before start
 abbrev pub paid_at : ℤ → ℤ → Option Entry

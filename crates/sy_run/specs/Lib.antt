@@ -10,3 +10,4 @@ pub mod Replies
 pub mod ReportText
 pub mod Stopping
 pub mod Stream
+pub mod Texts

@@ -15,7 +15,7 @@ use Rattle.sy_run.specs.RefusalText.{refusal_text}
 use Rattle.sy_run.specs.declared.files.Stop.{Stop}
 use Rattle.sy_run.specs.declared.files.Stop.TheVariants as stop
 use Rattle.sy_run.specs.declared.status.Status.{Status}
-use Rattle.sy_run.specs.declared.status.Status.TheVariants.{Refused, ReadFault, WriteFault, Memory}
+use Rattle.sy_run.specs.declared.status.Status.TheVariants.{Done, Refused, ReadFault, WriteFault, Memory}
 
 -- how a run ends that goes no further: a refusal is written, and after a failed read and on want of memory nothing more
 abbrev pub StopsWith : Option (List ℕ) → Option (List ℕ) → Stop → Status → Type 0
@@ -32,6 +32,13 @@ StopsWith old new stop.Memory _ = ⊥
 abbrev pub WriteCaused : ℕ → ℕ → Status → Type 0
 WriteCaused write_old write_new WriteFault = RoseSince write_old write_new
 WriteCaused write_old write_new status = write_new ≡ write_old
+
+-- the statuses of a text that is made and written
+abbrev pub IsWritingStatus : Status → Type 0
+IsWritingStatus Done = Unit {0}
+IsWritingStatus WriteFault = Unit {0}
+IsWritingStatus Memory = Unit {0}
+IsWritingStatus status = ⊥
 
 -- what is answered to a line was written, or on a fault a front of it
 abbrev pub WritesReply : Option (List ℕ) → Option (List ℕ) → List ℕ → Option Status → Type 0

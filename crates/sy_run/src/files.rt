@@ -1,21 +1,27 @@
 //! The files of a run: the specification and the binding, and the deed that they give.
-ghost use Rattle.std.specs.Prelude.{◌≡◌, ℕ, ℤ, List, IsTrue, IfOk, Some};
+ghost use Rattle.std.specs.Prelude.{◌≡◌, ◌<◌, ◌^◌, ℕ, List, length, IsTrue, IfOk, Some};
 ghost use Rattle.std.specs.declared.option.Option.{Option};
 ghost use Rattle.sy_base.specs.Outside.{CauseOf};
 ghost use Rattle.sy_base.specs.declared.refusal.FileKind.TheVariants as kind;
 ghost use Rattle.sy_base.specs.Points.{IsDated};
 ghost use Rattle.sy_base.specs.declared.time.TimeUnit.TheVariants.{Day};
+ghost use Rattle.sy_tree.specs.Spelling.{SpellsBinding, SpellsSpec};
 ghost use Rattle.sy_run.specs.FirstPath as first;
 ghost use Rattle.sy_run.specs.FirstPath.{IsFirstDeed};
-ghost use Rattle.sy_run.specs.Program.{bytes_in, date_or_refusal, date_in, deed_in};
-ghost use Rattle.sy_run.specs.Stopping.{IsToldAs, is_read_stop};
+ghost use Rattle.sy_run.specs.Stopping.{IsToldAs, NoReadStop, is_read_stop, stop_of};
+ghost use Rattle.sy_run.specs.Texts.{IsBindingIn, IsDeedIn, IsSpecIn, IsTree, bytes_in, date_or_refusal};
 ghost use Rattle.sy_run.specs.declared.files.Stop.TheVariants.{Memory as OutOfMemory};
 
 use crate::first_path::{deed, due_date, start_date};
 use crate::refusal::whole;
 use std::alloc::Global;
-use sy_base::{FaultName, FileFault, FileKind, Files, Memory, Point, Refusal, Text, read_file};
+use sy_base::{
+    FaultName, FileFault, FileKind, Files, Memory, Point, Refusal, Refused, Text, read_file,
+};
 use sy_core::Deed;
+use sy_lex::tokens;
+use sy_parse::{binding, spec};
+use sy_tree::{BindTree, SpecTree};
 
 /// Why a run goes no further.
 #[derive(Debug, Drop)]
@@ -25,6 +31,17 @@ pub(crate) enum Stop {
     /// A text is refused.
     Refused(Refusal),
     Memory,
+}
+
+impl From<Refused> for Stop {
+    ghost from_gives = { λ why stop. stop ≡ stop_of why };
+
+    fn from(why: Refused) -> Stop {
+        match why {
+            Refused::Refusal(refusal) => Stop::Refused(refusal),
+            Refused::Memory => Stop::Memory,
+        }
+    }
 }
 
 impl From<Memory> for Stop {
@@ -43,7 +60,9 @@ fn read_text<F: Files>(
     file: FileKind,
 ) -> Result<Text, Stop>
     requires { IsTrue (F.lent files.old name.now) }
-    ensures told { (told : Option (List ℕ)) → F.told files.old name.now ≡ Some told → IsToldAs (bytes_in file told) result }
+    ensures told { (told : Option (List ℕ)) → F.told files.old name.now ≡ Some told
+        → IsToldAs (λ bytes. bytes ≡ bytes_in file told) result }
+    ensures few { IfOk result (λ text. length text < 2 ^ 32) }
     ensures cause { CauseOf is_read_stop (F.faults files.old) (F.faults files.new) result }
     ensures lent { (n : List ℕ) → F.lent files.new n ≡ F.lent files.old n }
     ensures tells { (n : List ℕ) → F.told files.new n ≡ F.told files.old n }
@@ -56,7 +75,53 @@ fn read_text<F: Files>(
     }
 }
 
-// The date that was found in a file, or the refusal of a text that isn't read yet.
+// The specification of these bytes.
+fn spec_of(alloc: Global, bytes: &[u8]) -> Result<SpecTree, Stop>
+    requires few { length bytes.now < 2 ^ 32 }
+    ensures told { IsToldAs (IsTree kind.Spec SpellsSpec bytes.now) result }
+    ensures cause { NoReadStop result }
+{
+    let tokens = tokens(alloc, FileKind::Spec, bytes)?;
+    Ok(spec(alloc, bytes, tokens.items())?)
+}
+
+// The binding of these bytes.
+fn binding_of(alloc: Global, bytes: &[u8]) -> Result<BindTree, Stop>
+    requires few { length bytes.now < 2 ^ 32 }
+    ensures told { IsToldAs (IsTree kind.Bind SpellsBinding bytes.now) result }
+    ensures cause { NoReadStop result }
+{
+    let tokens = tokens(alloc, FileKind::Bind, bytes)?;
+    Ok(binding(alloc, bytes, tokens.items())?)
+}
+
+/// The specification in a file.
+pub(crate) fn read_spec<F: Files>(
+    alloc: Global,
+    files: &mut F,
+    name: &Text,
+) -> Result<SpecTree, Stop>
+    requires { IsTrue (F.lent files.old name.now) }
+    ensures told { (told : Option (List ℕ)) → F.told files.old name.now ≡ Some told → IsToldAs (IsSpecIn told) result }
+    ensures cause { CauseOf is_read_stop (F.faults files.old) (F.faults files.new) result }
+    ensures lent { (n : List ℕ) → F.lent files.new n ≡ F.lent files.old n }
+    ensures tells { (n : List ℕ) → F.told files.new n ≡ F.told files.old n }
+{
+    let text = read_text(alloc, files, name, FileKind::Spec)?;
+    spec_of(alloc, text.bytes())
+}
+
+// The binding in a file.
+fn read_binding<F: Files>(alloc: Global, files: &mut F, name: &Text) -> Result<BindTree, Stop>
+    requires { IsTrue (F.lent files.old name.now) }
+    ensures told { (told : Option (List ℕ)) → F.told files.old name.now ≡ Some told → IsToldAs (IsBindingIn told) result }
+    ensures cause { CauseOf is_read_stop (F.faults files.old) (F.faults files.new) result }
+{
+    let text = read_text(alloc, files, name, FileKind::Bind)?;
+    binding_of(alloc, text.bytes())
+}
+
+// A date that was found in a tree, or the refusal of one that isn't followed yet.
 fn found(alloc: Global, file: FileKind, date: Option<Point>) -> Result<Point, Stop>
     ensures { result ≡ date_or_refusal file date }
 {
@@ -66,30 +131,14 @@ fn found(alloc: Global, file: FileKind, date: Option<Point>) -> Result<Point, St
     }
 }
 
-// The due date in the specification.
-fn read_due_date<F: Files>(alloc: Global, files: &mut F, name: &Text) -> Result<Point, Stop>
-    requires { IsTrue (F.lent files.old name.now) }
-    ensures told { (told : Option (List ℕ)) → F.told files.old name.now ≡ Some told → IsToldAs (date_in kind.Spec first.due_date told) result }
+// The due date of a specification.
+fn due_date_of(alloc: Global, tree: &SpecTree) -> Result<Point, Stop>
+    ensures told { IsToldAs (λ date. date ≡ date_or_refusal kind.Spec (first.due_date tree.now)) result }
     ensures dated { IfOk result (IsDated Day) }
-    ensures cause { CauseOf is_read_stop (F.faults files.old) (F.faults files.new) result }
-    ensures lent { (n : List ℕ) → F.lent files.new n ≡ F.lent files.old n }
-    ensures tells { (n : List ℕ) → F.told files.new n ≡ F.told files.old n }
+    ensures cause { NoReadStop result }
 {
-    let text = read_text(alloc, files, name, FileKind::Spec)?;
-    found(alloc, FileKind::Spec, due_date(text.bytes()))
-}
-
-// The start in the binding.
-fn read_start_date<F: Files>(alloc: Global, files: &mut F, name: &Text) -> Result<Point, Stop>
-    requires { IsTrue (F.lent files.old name.now) }
-    ensures told { (told : Option (List ℕ)) → F.told files.old name.now ≡ Some told → IsToldAs (date_in kind.Bind first.start_date told) result }
-    ensures dated { IfOk result (IsDated Day) }
-    ensures cause { CauseOf is_read_stop (F.faults files.old) (F.faults files.new) result }
-    ensures lent { (n : List ℕ) → F.lent files.new n ≡ F.lent files.old n }
-    ensures tells { (n : List ℕ) → F.told files.new n ≡ F.told files.old n }
-{
-    let text = read_text(alloc, files, name, FileKind::Bind)?;
-    found(alloc, FileKind::Bind, start_date(text.bytes()))
+    let date = due_date(alloc, tree)?;
+    found(alloc, FileKind::Spec, date)
 }
 
 /// The deed of a specification and its binding. The binding is read only once the specification is
@@ -102,11 +151,13 @@ pub(crate) fn read_deed<F: Files>(
 ) -> Result<Deed, Stop>
     requires spec { IsTrue (F.lent files.old spec.now) }
     requires bind { IsTrue (F.lent files.old bind.now) }
-    ensures told { (s b : Option (List ℕ)) → F.told files.old spec.now ≡ Some s → F.told files.old bind.now ≡ Some b → IsToldAs (deed_in s b) result }
+    ensures told { (s b : Option (List ℕ)) → F.told files.old spec.now ≡ Some s → F.told files.old bind.now ≡ Some b → IsToldAs (IsDeedIn s b) result }
     ensures first { IfOk result IsFirstDeed }
     ensures cause { CauseOf is_read_stop (F.faults files.old) (F.faults files.new) result }
 {
-    let due = read_due_date(alloc, files, spec)?;
-    let start = read_start_date(alloc, files, bind)?;
+    let tree = read_spec(alloc, files, spec)?;
+    let due = due_date_of(alloc, &tree)?;
+    let binding = read_binding(alloc, files, bind)?;
+    let start = found(alloc, FileKind::Bind, start_date(&binding))?;
     Ok(deed(alloc, start, due)?)
 }

@@ -1,5 +1,5 @@
-//! The texts that are read so far: one specification with any due date, its binding with any start,
-//! and the lines of its log.
+//! The texts that are followed so far: one specification with any due date, its binding with any
+//! start, and the lines of its log.
 ghost use Rattle.std.specs.Prelude.{◌≡◌, IfOk, IfSome};
 ghost use Rattle.sy_base.specs.Points.{IsDated};
 ghost use Rattle.sy_base.specs.declared.time.TimeUnit.TheVariants.{Day};
@@ -9,6 +9,7 @@ use std::alloc::Global;
 use sy_base::{List, Memory, Point, Text, TimeUnit};
 use sy_core::{Base, DateTerm, Deed, Ev, EventDecl, Form, Goal, Position, Prop};
 use sy_time::read_date;
+use sy_tree::{BindTree, SpecTree, print};
 
 /// What a line of the log says.
 #[derive(Clone, Copy, Debug, PartialEq, Eq)]
@@ -30,29 +31,35 @@ fn date_between(head: &[u8], tail: &[u8], bytes: &[u8]) -> Option<Point>
     read_date(TimeUnit::Day, date).ok()
 }
 
-// The bytes without their last newline, where they have one.
-fn without_newline(bytes: &[u8]) -> &[u8]
-    ensures { result.now ≡ text.without_newline bytes.now }
-{
-    bytes.strip_suffix(b"\n").unwrap_or(bytes)
-}
-
-/// The due date of the specification's obligation, if the text is of the first path.
-pub(crate) fn due_date(bytes: &[u8]) -> Option<Point>
-    ensures date { result ≡ text.due_date bytes.now }
+/// The due date of the specification's obligation, if the bytes are the canonical text of the first
+/// path.
+fn due_date_in(bytes: &[u8]) -> Option<Point>
+    ensures date { result ≡ text.due_date_in bytes.now }
     ensures dated { IfSome result (IsDated Day) }
 {
     let head =
-        b"Domain s\nParty isA Role;\nPaid isAn Event;\nendDomain\nContract S() unit Day\nDeclarations\na: Party;\nb: Party;\npaid: Paid;\nObligations\noPay: O(a, b, true, happensBefore(paid, ";
-    date_between(head, b"));\nendContract", without_newline(bytes))
+        b"Domain s\nParty isA Role ;\nPaid isA Event ;\nendDomain\nContract S ( ) unit Day\nDeclarations\na : Party ;\nb : Party ;\npaid : Paid ;\nObligations\noPay : O ( a , b , true , happensBefore ( paid , ";
+    date_between(head, b" ) ) ;\nendContract\n", bytes)
 }
 
-/// The start of the binding, if the text is of the first path.
-pub(crate) fn start_date(bytes: &[u8]) -> Option<Point>
-    ensures date { result ≡ text.start_date bytes.now }
+/// The due date of the obligation, if the specification is that of the first path.
+pub(crate) fn due_date(alloc: Global, tree: &SpecTree) -> Result<Option<Point>, Memory>
+    ensures date { IfOk result (λ date. date ≡ text.due_date tree.now) }
+    ensures dated { IfOk result (λ date. IfSome date (IsDated Day)) }
+{
+    let canonical = print(alloc, tree)?;
+    Ok(due_date_in(canonical.bytes()))
+}
+
+/// The start of a binding that binds nothing else.
+pub(crate) fn start_date(tree: &BindTree) -> Option<Point>
+    ensures date { result ≡ text.start_date tree.now }
     ensures dated { IfSome result (IsDated Day) }
 {
-    date_between(b"start ", b";", without_newline(bytes))
+    match tree.parameters.items() {
+        [] => read_date(TimeUnit::Day, tree.start.text.bytes()).ok(),
+        _ => None,
+    }
 }
 
 /// What a line says under a contract with this start, if it is of the first path.

@@ -2,6 +2,7 @@
 //! it is handed.
 #![tactic(auto)]
 
+mod compile;
 mod course;
 mod entries;
 mod files;

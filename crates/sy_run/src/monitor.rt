@@ -2,7 +2,7 @@
 ghost use Rattle.std.specs.Prelude.{◌≡◌, ◌++◌, ℕ, List, IsTrue, Some};
 ghost use Rattle.std.specs.declared.option.Option.{Option};
 ghost use Rattle.sy_run.specs.FirstPath.{IsFirstDeed};
-ghost use Rattle.sy_run.specs.Program.{Caused, Ends, IsMonitorStatus, IsStatusOf, NothingRose, WroteAllRead, deed_in, monitored};
+ghost use Rattle.sy_run.specs.Program.{Caused, Completes, EndsAs, IsMonitored, IsReadingStatus, NothingRose, WroteAllReadIn};
 ghost use Rattle.sy_run.specs.Stream.{StreamCaused, StreamEnds};
 
 use crate::entries::Entries;
@@ -21,7 +21,7 @@ fn follow<S: Source, W: Sink>(alloc: Global, deed: &Deed, input: &mut S, out: &m
     ensures told { (bytes : List ℕ) → S.left input.old ≡ Some bytes
         → StreamEnds deed.now bytes (S.left input.new) (W.held out.old) (W.held out.new) result }
     ensures cause { StreamCaused (S.faults input.old) (S.faults input.new) (W.faults out.old) (W.faults out.new) result }
-    ensures status { IsMonitorStatus result }
+    ensures status { IsReadingStatus result }
 {
     let Ok(mut reader) = LineReader::new(alloc) else {
         return Status::Memory;
@@ -46,13 +46,13 @@ fn read_and_follow<F: Files, S: Source, W: Sink>(
     requires bind { IsTrue (F.lent files.old bind.now) }
 
     ensures told { (s b : Option (List ℕ)) (i : List ℕ) → F.told files.old spec.now ≡ Some s → F.told files.old bind.now ≡ Some b
-        → S.left input.old ≡ Some i → Ends (W.held out.old) (W.held out.new) (monitored s b i) result }
+        → S.left input.old ≡ Some i → EndsAs (W.held out.old) (W.held out.new) (IsMonitored s b i) result }
     ensures all_read { (s b : Option (List ℕ)) (taken rest : List ℕ) → F.told files.old spec.now ≡ Some s → F.told files.old bind.now ≡ Some b
         → S.left input.old ≡ Some (taken ++ rest) → S.left input.new ≡ Some rest
-        → WroteAllRead (W.held out.old) (W.held out.new) (deed_in s b) taken result }
+        → WroteAllReadIn (W.held out.old) (W.held out.new) s b taken result }
 
     ensures cause { Caused (F.faults files.old) (F.faults files.new) (S.faults input.old) (S.faults input.new) (W.faults out.old) (W.faults out.new) result }
-    ensures status { IsMonitorStatus result }
+    ensures status { IsReadingStatus result }
 {
     match read_deed(alloc, files, spec, bind) {
         Ok(deed) => follow(alloc, &deed, input, out),
@@ -74,18 +74,18 @@ pub(crate) fn monitor<F: Files, S: Source, W: Sink>(
     requires bind { IsTrue (F.lent files.old bind.now) }
 
     ensures told { (s b : Option (List ℕ)) (i : List ℕ) → F.told files.old spec.now ≡ Some s → F.told files.old bind.now ≡ Some b
-        → S.left input.old ≡ Some i → Ends (W.held out.old) (W.held out.new) (monitored s b i) result }
+        → S.left input.old ≡ Some i → EndsAs (W.held out.old) (W.held out.new) (IsMonitored s b i) result }
     ensures all_read { (s b : Option (List ℕ)) (taken rest : List ℕ) → F.told files.old spec.now ≡ Some s → F.told files.old bind.now ≡ Some b
         → S.left input.old ≡ Some (taken ++ rest) → S.left input.new ≡ Some rest
-        → WroteAllRead (W.held out.old) (W.held out.new) (deed_in s b) taken result }
+        → WroteAllReadIn (W.held out.old) (W.held out.new) s b taken result }
 
     ensures complete { (s b : Option (List ℕ)) (i : List ℕ) → F.told files.old spec.now ≡ Some s → F.told files.old bind.now ≡ Some b
         → S.left input.old ≡ Some i
         → NothingRose (F.faults files.old) (F.faults files.new) (S.faults input.old) (S.faults input.new) (W.faults out.old) (W.faults out.new)
-        → IsStatusOf (monitored s b i).end result }
+        → Completes (IsMonitored s b i) result }
 
     ensures cause { Caused (F.faults files.old) (F.faults files.new) (S.faults input.old) (S.faults input.new) (W.faults out.old) (W.faults out.new) result }
-    ensures status { IsMonitorStatus result }
+    ensures status { IsReadingStatus result }
 {
     read_and_follow(alloc, spec, bind, files, input, out)
 }

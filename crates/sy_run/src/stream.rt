@@ -4,7 +4,7 @@ ghost use Rattle.std.specs.declared.option.Option.{Option};
 ghost use Rattle.sy_base.specs.Reader.{new_reading};
 ghost use Rattle.sy_run.specs.FirstPath.{IsFirstDeed};
 ghost use Rattle.sy_run.specs.Holding.{Holds};
-ghost use Rattle.sy_run.specs.Program.{IsMonitorStatus};
+ghost use Rattle.sy_run.specs.Program.{IsReadingStatus};
 ghost use Rattle.sy_run.specs.Stream.{AfterLine, CausedIf, IsReady, SoFar, StreamCaused, StreamEnds, WritesReply};
 
 use crate::log::{Log, reply_next};
@@ -42,7 +42,7 @@ fn one_line<S: Source, W: Sink>(
     ensures cause { CausedIf (S.faults input.old) (S.faults input.new) (W.faults out.old) (W.faults out.new) result }
     ensures ready { IfNone result (IsReady reader.new log.new.lines) }
     ensures ascends { IfNone result (log.new.lines ≡ log.old.lines + 1) }
-    ensures status { IfSome result IsMonitorStatus }
+    ensures status { IfSome result IsReadingStatus }
 {
     match reply_next(alloc, deed, log, reader, input) {
         Ok(Some(text)) => write_reply(&text, out),
@@ -67,7 +67,7 @@ pub(crate) fn stream<S: Source, W: Sink>(
     ensures told { (bytes : List ℕ) → S.left input.old ≡ Some bytes
         → StreamEnds deed.now bytes (S.left input.new) (W.held out.old) (W.held out.new) result }
     ensures cause { StreamCaused (S.faults input.old) (S.faults input.new) (W.faults out.old) (W.faults out.new) result }
-    ensures status { IsMonitorStatus result }
+    ensures status { IsReadingStatus result }
 {
     'lines: loop {
         if let Some(status) = one_line(alloc, deed, log, reader, input, out) {

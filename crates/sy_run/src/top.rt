@@ -1,8 +1,10 @@
-ghost use Rattle.std.specs.Prelude.{◌≡◌, ◌∷◌, ◌++◌, [], ℕ, List, true, false, Some};
+ghost use Rattle.std.specs.Prelude.{◌≡◌, ◌++◌, ℕ, List, None, Some};
 ghost use Rattle.std.specs.declared.option.Option.{Option};
-ghost use Rattle.sy_run.specs.Program.{Caused, Ends, EndsUsage, IsMonitorStatus, IsStatusOf, Lends, NothingRose, WroteAllRead, deed_in, is_form, monitored};
+ghost use Rattle.sy_run.specs.Program as program;
+ghost use Rattle.sy_run.specs.Program.{Caused, Completes, EndsAs, EndsUsage, Form, IsCompiled, IsMonitored, IsReadingStatus, Lends, NothingRose, WroteAllReadIn, form_of};
 ghost use Rattle.sy_run.specs.Stream.{WriteCaused};
 
+use crate::compile::compile;
 use crate::monitor::monitor;
 use crate::status::Status;
 use std::alloc::Global;
@@ -22,15 +24,9 @@ fn usage<W: Sink>(out: &mut W) -> Status
     }
 }
 
-// The word names the form `monitor`.
-fn is_monitor(word: &Text) -> bool
-    ensures { result ≡ is_form (word.now ∷ [] ∷ [] ∷ []) }
-{
-    word.bytes() == b"monitor".as_slice()
-}
-
-/// Does what the words say, over the files, the input and the output that it is handed. It has one
-/// form so far, `monitor SPEC BIND`, and with any other words it writes how it is used.
+/// Does what the words say, over the files, the input and the output that it is handed. It has two
+/// forms so far, `compile SPEC` and `monitor SPEC BIND`, and with any other words it writes how it is
+/// used.
 ///
 /// `steps` counts evaluated points for the forms whose work is bounded by a clause; there is none
 /// yet.
@@ -45,31 +41,43 @@ pub fn run<F: Files, S: Source, W: Sink, L: Ledger>(
     requires { Lends (F.lent files.old) words.now }
 
     // The words are of no form, exactly where the answer is Usage or the usage line could not be written.
-    ensures usage { result ≡ Status.Usage → is_form words.now ≡ false }
-    ensures no_form { is_form words.now ≡ false → EndsUsage (W.held out.old) (W.held out.new) result }
-    ensures form { is_form words.now ≡ true → IsMonitorStatus result }
+    ensures usage { result ≡ Status.Usage → form_of words.now ≡ None }
+    ensures no_form { form_of words.now ≡ None → EndsUsage (W.held out.old) (W.held out.new) result }
+    ensures form { (f : Form) → form_of words.now ≡ Some f → IsReadingStatus result }
 
-    // What is written is the outcome of the told files and input, or on a fault a front of it.
-    ensures told { (form spec bind : List ℕ) (s b : Option (List ℕ)) (i : List ℕ) → words.now ≡ form ∷ spec ∷ bind ∷ [] → is_form words.now ≡ true
+    // `compile`: what is written is the canonical text of the told specification, or its refusal; on a fault a front of it.
+    ensures compiled { (spec : List ℕ) (s : Option (List ℕ)) → form_of words.now ≡ Some (program.Compile spec)
+        → F.told files.old spec ≡ Some s
+        → EndsAs (W.held out.old) (W.held out.new) (IsCompiled s) result }
+
+    // `monitor`: what is written is the outcome of the told files and input, or on a fault a front of it.
+    ensures monitored { (spec bind : List ℕ) (s b : Option (List ℕ)) (i : List ℕ) → form_of words.now ≡ Some (program.Monitor spec bind)
         → F.told files.old spec ≡ Some s → F.told files.old bind ≡ Some b → S.left input.old ≡ Some i
-        → Ends (W.held out.old) (W.held out.new) (monitored s b i) result }
+        → EndsAs (W.held out.old) (W.held out.new) (IsMonitored s b i) result }
 
     // Where a read failed, each report that a whole line of the taken bytes asks for was written.
-    ensures all_read { (form spec bind : List ℕ) (s b : Option (List ℕ)) (taken rest : List ℕ) → words.now ≡ form ∷ spec ∷ bind ∷ [] → is_form words.now ≡ true
+    ensures all_read { (spec bind : List ℕ) (s b : Option (List ℕ)) (taken rest : List ℕ) → form_of words.now ≡ Some (program.Monitor spec bind)
         → F.told files.old spec ≡ Some s → F.told files.old bind ≡ Some b → S.left input.old ≡ Some (taken ++ rest) → S.left input.new ≡ Some rest
-        → WroteAllRead (W.held out.old) (W.held out.new) (deed_in s b) taken result }
+        → WroteAllReadIn (W.held out.old) (W.held out.new) s b taken result }
 
     // Where no count rose the run answers Done, or Refused where a text is refused, or want of memory.
-    ensures complete { (form spec bind : List ℕ) (s b : Option (List ℕ)) (i : List ℕ) → words.now ≡ form ∷ spec ∷ bind ∷ [] → is_form words.now ≡ true
+    ensures complete_compiled { (spec : List ℕ) (s : Option (List ℕ)) → form_of words.now ≡ Some (program.Compile spec)
+        → F.told files.old spec ≡ Some s
+        → NothingRose (F.faults files.old) (F.faults files.new) (S.faults input.old) (S.faults input.new) (W.faults out.old) (W.faults out.new)
+        → Completes (IsCompiled s) result }
+    ensures complete_monitored { (spec bind : List ℕ) (s b : Option (List ℕ)) (i : List ℕ) → form_of words.now ≡ Some (program.Monitor spec bind)
         → F.told files.old spec ≡ Some s → F.told files.old bind ≡ Some b → S.left input.old ≡ Some i
         → NothingRose (F.faults files.old) (F.faults files.new) (S.faults input.old) (S.faults input.new) (W.faults out.old) (W.faults out.new)
-        → IsStatusOf (monitored s b i).end result }
+        → Completes (IsMonitored s b i) result }
 
     // A fault comes only where its count rose, and no fault is passed over.
     ensures cause { Caused (F.faults files.old) (F.faults files.new) (S.faults input.old) (S.faults input.new) (W.faults out.old) (W.faults out.new) result }
 {
     match words {
-        [form, spec, bind] if is_monitor(form) => monitor(alloc, spec, bind, files, input, out),
+        [form, spec] if form.bytes() == b"compile".as_slice() => compile(alloc, spec, files, out),
+        [form, spec, bind] if form.bytes() == b"monitor".as_slice() => {
+            monitor(alloc, spec, bind, files, input, out)
+        }
         _ => usage(out),
     }
 }

@@ -101,11 +101,17 @@ fn logs_are_answered(rt: HostRuntime) -> Result<(), Fail> {
     Ok(())
 }
 
+const COMPILE: &[&[u8]] = &[b"compile", b"SPEC"];
+
+/// What is compiled from the specification of the first path.
+const CANONICAL: &[u8] =
+    b"Domain s\nParty isA Role ;\nPaid isA Event ;\nendDomain\nContract S ( ) unit Day\nDeclarations\na : Party ;\nb : Party ;\npaid : Paid ;\nObligations\noPay : O ( a , b , true , happensBefore ( paid , 2024-03-11 ) ) ;\nendContract\n";
+
 #[test]
-fn words_and_files_are_refused(rt: HostRuntime) -> Result<(), Fail> {
+fn words_and_files_are_answered(rt: HostRuntime) -> Result<(), Fail> {
     let big = vec![in rt.alloc(); b' '; 1_048_577]?;
     let limit = vec![in rt.alloc(); b' '; 1_048_576]?;
-    let table: [(&[&[u8]], &[u8], &[u8], Status, &[u8]); 10] = [
+    let table: [(&[&[u8]], &[u8], &[u8], Status, &[u8]); 18] = [
         (&[], SPEC, BIND, Status::Usage, USAGE),
         (&[b"monitor", b"SPEC"], SPEC, BIND, Status::Usage, USAGE),
         (
@@ -134,14 +140,49 @@ fn words_and_files_are_refused(rt: HostRuntime) -> Result<(), Fail> {
             b"Domain s\n",
             b"start",
             Status::Refused,
+            b"refused spec 2:1 SyntaxFault\n",
+        ),
+        (
+            MONITOR,
+            b"Domain s\nParty isA Role;\nPaid is An Event;\n",
+            BIND,
+            Status::Refused,
+            b"refused spec 3:6 SyntaxFault is\n",
+        ),
+        (
+            MONITOR,
+            b"Domain s\n  @",
+            BIND,
+            Status::Refused,
+            b"refused spec 2:3 LexFault\n",
+        ),
+        (
+            MONITOR,
+            b"Domain d endDomain Contract C() unit Day endContract",
+            BIND,
+            Status::Refused,
             b"refused spec NotYet\n",
+        ),
+        (
+            MONITOR,
+            b"Domain s // the first\nParty isAn Role; Paid isA Event; endDomain Contract S ( ) unit Day Declarations a: Party; b: Party; paid: Paid; Obligations oPay: O(a, b, (true), happensBefore(paid, 2024-03-11)); Powers endContract",
+            BIND,
+            Status::Done,
+            b"",
+        ),
+        (
+            MONITOR,
+            SPEC,
+            b"start 2024-03-01;\nprice := 100;\n",
+            Status::Refused,
+            b"refused bind NotYet\n",
         ),
         (
             MONITOR,
             SPEC,
             b"start 2024-03-01\n",
             Status::Refused,
-            b"refused bind NotYet\n",
+            b"refused bind 2:1 SyntaxFault\n",
         ),
         (
             MONITOR,
@@ -155,7 +196,7 @@ fn words_and_files_are_refused(rt: HostRuntime) -> Result<(), Fail> {
             &limit,
             BIND,
             Status::Refused,
-            b"refused spec NotYet\n",
+            b"refused spec 1:1048577 SyntaxFault\n",
         ),
         (
             MONITOR,
@@ -163,6 +204,15 @@ fn words_and_files_are_refused(rt: HostRuntime) -> Result<(), Fail> {
             &big,
             Status::Refused,
             b"refused bind TooBig\n",
+        ),
+        (COMPILE, SPEC, BIND, Status::Done, CANONICAL),
+        (COMPILE, CANONICAL, BIND, Status::Done, CANONICAL),
+        (
+            COMPILE,
+            b"Domain s",
+            BIND,
+            Status::Refused,
+            b"refused spec 1:9 SyntaxFault\n",
         ),
     ];
     for (words, spec, bind, status, out) in table {

@@ -1,0 +1,76 @@
+-- What the texts of files give.
+use Rattle.std.specs.Prelude.{◌≡◌, ℕ, nat_lt, if◌then◌else◌, List, length, Option, None, Some, Result, Ok, Err, ℤ}
+use Rattle.sy_base.specs.declared.read.TheConstants.{FILE_LIMIT}
+use Rattle.sy_base.specs.declared.refusal.FileKind.{FileKind}
+use Rattle.sy_base.specs.declared.refusal.FileKind.TheVariants.{Spec, Bind}
+use Rattle.sy_base.specs.declared.refusal.FaultName.TheVariants.{NotYet, TooBig}
+use Rattle.sy_base.specs.declared.refusal.Refusal.{Refusal}
+use Rattle.sy_base.specs.declared.refusal.Refused.TheVariants as R
+use Rattle.sy_core.specs.declared.deed.Deed.{Deed}
+use Rattle.sy_lex.specs.declared.token.Token.{Token}
+use Rattle.sy_lex.specs.Tokens.{HasText, IsLexFault}
+use Rattle.sy_tree.specs.declared.contract.SpecTree.{SpecTree}
+use Rattle.sy_tree.specs.declared.binding.BindTree.{BindTree}
+use Rattle.sy_tree.specs.Lexemes.{Lexeme}
+use Rattle.sy_tree.specs.Spelling.{SpellsSpec, SpellsBinding, lexemes_of}
+use Rattle.sy_parse.specs.Faults.{IsSyntaxFault}
+use Rattle.sy_run.specs.FirstPath.{due_date, start_date, deed}
+use Rattle.sy_run.specs.RefusalText.{whole}
+use Rattle.sy_run.specs.declared.files.Stop.{Stop}
+use Rattle.sy_run.specs.declared.files.Stop.TheVariants as stop
+
+-- the bytes of a file: a missing one can't be read, and one past the limit is too big
+abbrev pub bytes_in : FileKind → Option (List ℕ) → Result (List ℕ) Stop
+bytes_in file None = Err stop.ReadFault
+bytes_in file (Some bytes) =
+    if nat_lt FILE_LIMIT (length bytes) then Err (stop.Refused (whole file TooBig)) else Ok bytes
+
+-- the bytes give this tree, by the rule for it, or this refusal: LexFault where they have no list of tokens, and
+-- SyntaxFault where their tokens spell no tree
+pub data IsTree {A : Type 0} (file : FileKind) (spells : A → List Lexeme → Type 0) : List ℕ → Result A Stop → Type 0 where
+  no_tokens : (bytes : List ℕ) (refusal : Refusal) → ((tokens : List Token) → HasText tokens bytes → ⊥)
+      → IsLexFault file (R.Refusal refusal) → IsTree file spells bytes (Err (stop.Refused refusal))
+  no_tree : (bytes : List ℕ) (tokens : List Token) (refusal : Refusal) → HasText tokens bytes
+      → ((tree : A) → spells tree (lexemes_of bytes tokens) → ⊥)
+      → IsSyntaxFault file bytes tokens (R.Refusal refusal) → IsTree file spells bytes (Err (stop.Refused refusal))
+  one_tree : (bytes : List ℕ) (tokens : List Token) (tree : A) → HasText tokens bytes
+      → spells tree (lexemes_of bytes tokens) → IsTree file spells bytes (Ok tree)
+
+-- a file of these bytes gives this tree or ends the run so
+abbrev pub IsTreeOf : {A : Type 0} → FileKind → (A → List Lexeme → Type 0) → Result (List ℕ) Stop → Result A Stop → Type 0
+IsTreeOf file spells (Ok bytes) result = IsTree file spells bytes result
+IsTreeOf file spells (Err why) result = result ≡ Err why
+
+-- the specification in a file
+abbrev pub IsSpecIn : Option (List ℕ) → Result SpecTree Stop → Type 0
+IsSpecIn told result = IsTreeOf Spec SpellsSpec (bytes_in Spec told) result
+
+-- the binding in a file
+abbrev pub IsBindingIn : Option (List ℕ) → Result BindTree Stop → Type 0
+IsBindingIn told result = IsTreeOf Bind SpellsBinding (bytes_in Bind told) result
+
+-- a date that a tree has, or the refusal of one that isn't followed yet
+abbrev pub date_or_refusal : FileKind → Option ℤ → Result ℤ Stop
+date_or_refusal file (Some date) = Ok date
+date_or_refusal file None = Err (stop.Refused (whole file NotYet))
+
+abbrev pub date_of_tree : {A : Type 0} → FileKind → (A → Option ℤ) → Result A Stop → Result ℤ Stop
+date_of_tree file date_of (Ok tree) = date_or_refusal file (date_of tree)
+date_of_tree file date_of (Err why) = Err why
+
+-- the deed, once the due date is known
+abbrev pub deed_due : ℤ → Result ℤ Stop → Result Deed Stop
+deed_due due (Ok start) = Ok (deed start due)
+deed_due due (Err why) = Err why
+
+-- the binding is read only once the specification is accepted
+abbrev pub IsDeedDue : Result ℤ Stop → Option (List ℕ) → Result Deed Stop → Type 0
+IsDeedDue (Ok due) bind result =
+    (binding : Result BindTree Stop) × IsBindingIn bind binding
+    × (result ≡ deed_due due (date_of_tree Bind start_date binding))
+IsDeedDue (Err why) bind result = result ≡ Err why
+
+-- the deed of a specification and a binding, or how their files end the run
+abbrev pub IsDeedIn : Option (List ℕ) → Option (List ℕ) → Result Deed Stop → Type 0
+IsDeedIn spec bind result =
+    (tree : Result SpecTree Stop) × IsSpecIn spec tree × IsDeedDue (date_of_tree Spec due_date tree) bind result
