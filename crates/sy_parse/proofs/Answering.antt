@@ -1,5 +1,5 @@
 -- From what reading gives to what is answered.
-use Rattle.std.proofs.Common.{◌≡◌, ℕ, ◌-◌, List, length, Result, Ok, Err, refl, sym, ◌∙◌}
+use Rattle.std.proofs.Common.{◌≡◌, ℕ, ◌-◌, List, length, Result, Ok, Err, sym, ◌∙◌}
 use Rattle.std.specs.Prelude.{IfOk, IfErr}
 use Rattle.sy_base.specs.declared.refusal.FileKind.{FileKind}
 use Rattle.sy_base.specs.declared.refusal.Refused.{Refused}

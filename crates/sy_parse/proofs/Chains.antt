@@ -1,7 +1,7 @@
 -- Reading parts with a word between them.
-use Rattle.std.proofs.Common.{◌≡◌, ℕ, zero, suc, ◌+◌, ◌-◌, ◌≤◌, ◌<◌, Bool, true, false, not, List, [], ◌∷◌, ◌++◌, length, Result, Ok, Err, refl, sym, ap, ◌∙◌, arith}
+use Rattle.std.proofs.Common.{◌≡◌, ℕ, zero, suc, ◌+◌, ◌-◌, ◌≤◌, ◌<◌, Bool, true, false, List, [], ◌∷◌, ◌++◌, length, Result, Ok, Err, refl, sym, ap, ◌∙◌, arith}
 use Rattle.sy_lex.specs.declared.keyword.Keyword.{Keyword}
-use Rattle.sy_tree.specs.Lexemes.{Lexeme, written}
+use Rattle.sy_tree.specs.Lexemes.{Lexeme}
 use Rattle.sy_tree.specs.Propositions.{joined}
 use Rattle.sy_tree.specs.declared.sort.Sort.{Sort}
 use Rattle.sy_tree.specs.declared.sort.Sort.TheVariants as S
@@ -9,7 +9,7 @@ use Rattle.sy_tree.specs.declared.proposition.First.{First}
 use Rattle.sy_tree.specs.declared.proposition.PropTree.{PropTree}
 use Rattle.sy_reader.specs.declared.fault.Fault.{Fault}
 use Rattle.sy_reader.specs.declared.fault.Fault.TheVariants as F
-use Rattle.sy_reader.specs.Reader.{Read, Reading, Reads, ◌>>=◌, and_then, give, and_more, with_first, next_passes, while_at, many_at, is_sort, begins_with, first_of}
+use Rattle.sy_reader.specs.Reader.{Read, Reading, Reads, and_then, give, and_more, with_first, next_passes, while_at, many_at, is_sort, begins_with, first_of}
 use Rattle.sy_parse.specs.ReadingPropositions.{begins_at, link_at, links_at, chain_at, neg_at, neg_of_at, atom_at}
 use Rattle.sy_reader.proofs.Loops.{one_fails, turn_ends, while_first}
 

@@ -8,8 +8,6 @@ use Rattle.sy_base.specs.declared.refusal.Refused.TheVariants as R
 use Rattle.sy_lex.specs.declared.token.Token.{Token}
 use Rattle.sy_lex.specs.Tokens.{end_of}
 use Rattle.sy_tree.specs.Lexemes.{text_of}
-use Rattle.sy_reader.specs.declared.fault.Fault.{Fault}
-use Rattle.sy_reader.specs.declared.fault.Fault.TheVariants as F
 
 -- a refusal for syntax at the first of these tokens, with its text, or at the end, without words
 abbrev pub syntax_fault : FileKind → List ℕ → List Token → Refusal

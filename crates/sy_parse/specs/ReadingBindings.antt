@@ -1,5 +1,5 @@
 -- How bindings are read.
-use Rattle.std.specs.Prelude.{true, false, if◌then◌else◌, List, []}
+use Rattle.std.specs.Prelude.{true, false, if◌then◌else◌}
 use Rattle.sy_lex.specs.declared.keyword.Keyword.TheVariants as K
 use Rattle.sy_lex.specs.declared.sign.Sign.TheVariants as Sg
 use Rattle.sy_lex.specs.declared.sign.Sign.TheVariants.{Semicolon, OpenBrace, CloseBrace, Assign, Minus}

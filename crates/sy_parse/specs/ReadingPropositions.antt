@@ -1,6 +1,5 @@
 -- How propositions are read.
-use Rattle.std.specs.Prelude.{ℕ, zero, suc, Bool, true, false, List, [], ◌∷◌, Option, Some, None, length}
-use Rattle.sy_base.specs.declared.refusal.Place.{Place}
+use Rattle.std.specs.Prelude.{ℕ, zero, suc, Bool, true, false, List, None}
 use Rattle.sy_lex.specs.declared.keyword.Keyword.{Keyword}
 use Rattle.sy_lex.specs.declared.keyword.Keyword.TheVariants as K
 use Rattle.sy_lex.specs.declared.sign.Sign.TheVariants as Sg
@@ -11,10 +10,9 @@ use Rattle.sy_tree.specs.declared.proposition.First.{First}
 use Rattle.sy_tree.specs.declared.proposition.PropTree.{PropTree}
 use Rattle.sy_tree.specs.declared.proposition.PropTree.TheVariants as P
 use Rattle.sy_tree.specs.declared.proposition.EventTree.{EventTree}
-use Rattle.sy_tree.specs.declared.proposition.SituationTree.{SituationTree}
 use Rattle.sy_tree.specs.declared.date.DateTree.{DateTree}
 use Rattle.sy_tree.specs.Propositions.{in_brackets, joined}
-use Rattle.sy_reader.specs.Reader.{Reading, ◌>>=◌, give, ahead_at, keyword_at, sign_at, by_next, is_sort, while_at, many_at, before_at, between_at}
+use Rattle.sy_reader.specs.Reader.{Reading, ◌>>=◌, give, ahead_at, keyword_at, sign_at, by_next, is_sort, many_at, before_at, between_at}
 use Rattle.sy_parse.specs.ReadingTerms.{term_at, cmp_at, rhs_at, event_at, situation_at, date_at}
 
 unfoldable pub begins_at : Reading First

@@ -7,7 +7,7 @@ use Rattle.sy_core.specs.declared.position.Verb.{Verb}
 use Rattle.sy_core.specs.declared.position.Verb.TheVariants as V
 use Rattle.sy_lex.specs.declared.keyword.Keyword.{Keyword}
 use Rattle.sy_lex.specs.declared.keyword.Keyword.TheVariants as K
-use Rattle.sy_lex.specs.declared.sign.Sign.TheVariants.{Colon, Semicolon, Comma, Open, Close, Assign, Arrow}
+use Rattle.sy_lex.specs.declared.sign.Sign.TheVariants.{Colon, Comma, Open, Close, Assign, Arrow}
 use Rattle.sy_tree.specs.declared.sort.Sort.{Sort}
 use Rattle.sy_tree.specs.declared.sort.Sort.TheVariants as S
 use Rattle.sy_tree.specs.declared.written.Written.{Written}
@@ -32,7 +32,7 @@ use Rattle.sy_tree.specs.declared.proposition.PropTree.{PropTree}
 use Rattle.sy_tree.specs.Lexemes.{Lexeme}
 use Rattle.sy_reader.specs.declared.fault.Fault.{Fault}
 use Rattle.sy_reader.specs.declared.fault.Fault.TheVariants as F
-use Rattle.sy_reader.specs.Reader.{Read, Reading, ◌>>=◌, give, fail, begins_with, lexeme_at, token_at, keyword_at, place_at, sign_at, by_next, before_at, between_at, listed_at, maybe_listed_at, ended_at}
+use Rattle.sy_reader.specs.Reader.{Read, Reading, ◌>>=◌, give, fail, begins_with, token_at, keyword_at, by_next, before_at, between_at, listed_at, maybe_listed_at, ended_at}
 use Rattle.sy_parse.specs.ReadingTerms.{rhs_at, target_at}
 use Rattle.sy_parse.specs.ReadingPropositions.{prop_at}
 

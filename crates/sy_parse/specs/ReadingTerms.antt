@@ -1,6 +1,5 @@
 -- How terms, events, situations and dates are read.
 use Rattle.std.specs.Prelude.{Bool, true, false, if◌then◌else◌, List, [], ◌∷◌, Option, Some, None, Ok}
-use Rattle.sy_base.specs.declared.refusal.Place.{Place}
 use Rattle.sy_base.specs.declared.time.Measure.{Measure}
 use Rattle.sy_base.specs.declared.time.Measure.TheVariants as M
 use Rattle.sy_core.specs.declared.value.Cmp.{Cmp}
@@ -39,8 +38,8 @@ use Rattle.sy_tree.specs.declared.proposition.EventTree.{EventTree}
 use Rattle.sy_tree.specs.declared.proposition.EventTree.TheVariants as Event
 use Rattle.sy_tree.specs.declared.proposition.GuardTree.{GuardTree}
 use Rattle.sy_tree.specs.declared.proposition.SituationTree.{SituationTree}
-use Rattle.sy_tree.specs.Lexemes.{Lexeme, written}
-use Rattle.sy_reader.specs.Reader.{Read, Reading, ◌>>=◌, give, fail, begins_with, lexeme_at, token_at, keyword_at, sign_at, by_next, many_at, behind_at, before_at, between_at, each_behind, all_behind, listed_at}
+use Rattle.sy_tree.specs.Lexemes.{Lexeme}
+use Rattle.sy_reader.specs.Reader.{Reading, ◌>>=◌, give, fail, begins_with, token_at, keyword_at, sign_at, by_next, many_at, behind_at, between_at, each_behind, all_behind, listed_at}
 
 -- what stands behind a dot, if one is there
 abbrev pub maybe_attribute : Reading (Option Written)

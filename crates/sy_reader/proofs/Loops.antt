@@ -1,11 +1,11 @@
 -- Reading as many as there are, as a loop does.
-use Rattle.std.proofs.Common.{◌≡◌, ℕ, zero, suc, ◌+◌, ◌-◌, ◌≤◌, ◌<◌, Bool, true, false, not, List, [], ◌∷◌, ◌++◌, length, Result, Ok, Err, refl, sym, ap, ◌∙◌, append_assoc, arith}
+use Rattle.std.proofs.Common.{◌≡◌, ℕ, zero, suc, ◌+◌, ◌-◌, ◌≤◌, ◌<◌, Bool, true, false, List, [], ◌∷◌, ◌++◌, length, Result, Ok, Err, refl, sym, ap, ◌∙◌, append_assoc, arith}
 use Rattle.std.proofs.lemmas.List.{append-nil, length-append}
 use Rattle.sy_reader.specs.declared.fault.Fault.{Fault}
 use Rattle.sy_reader.specs.declared.fault.Fault.TheVariants as F
 use Rattle.sy_tree.specs.Lexemes.{Lexeme}
 use Rattle.sy_tree.specs.declared.sort.Sort.{Sort}
-use Rattle.sy_reader.specs.Reader.{Read, Reading, ◌>>=◌, and_then, give, and_more, next_passes, while_at, many_at, with_first, Reads, begins_with, is_sort, each_behind, listed_at}
+use Rattle.sy_reader.specs.Reader.{Read, Reading, and_then, give, and_more, next_passes, while_at, many_at, with_first, Reads, begins_with, is_sort, each_behind, listed_at}
 use Rattle.sy_lex.specs.declared.sign.Sign.TheVariants.{Comma}
 
 regroup : {A : Type 0} (front : List A) (x : A) (read : Read (List A)) → and_then (with_first x read) (λ xs. give (front ++ xs)) ≡ and_then read (λ xs. give ((front ++ x ∷ []) ++ xs))

@@ -1,4 +1,4 @@
-use Rattle.std.proofs.Common.{refl, ap, length}
+use Rattle.std.proofs.Common.{ap}
 use Rattle.sy_reader.specs.Reader.{each_behind, all_behind}
 use Rattle.sy_reader.proofs.Loops.{reads_same}
 use Rattle.sy_parse.proofs.production.all_behind.Goals as goal

@@ -1,8 +1,7 @@
-use Rattle.std.proofs.Common.{◌≡◌, ◌≤◌, ◌<◌, ◌+◌, ◌-◌, not, length, ap, sym, ◌∙◌, refl, arith, List, [], ◌∷◌}
+use Rattle.std.proofs.Common.{◌≡◌, ◌+◌, ◌-◌, not, length, ap, sym, ◌∙◌, refl, arith, [], ◌∷◌}
 use Rattle.std.proofs.lemmas.List.{length-append}
 use Rattle.std.proofs.lemmas.Result.{err_from_is_err_and}
 use Rattle.sy_lex.specs.declared.sign.Sign.TheVariants.{Semicolon}
-use Rattle.sy_tree.specs.declared.sort.Sort.{Sort}
 use Rattle.sy_reader.specs.Reader.{before_at, is_heading}
 use Rattle.sy_reader.proofs.Loops.{one_more, reads_fail, turn_ends}
 use Rattle.sy_parse.proofs.production.ended.Goals as goal

@@ -1,4 +1,4 @@
-use Rattle.std.proofs.Common.{◌∙◌, refl, ap, length}
+use Rattle.std.proofs.Common.{◌∙◌, refl, ap}
 use Rattle.sy_lex.specs.declared.sign.Sign.TheVariants.{Comma}
 use Rattle.sy_reader.specs.Reader.{each_behind, and_more, listed_at}
 use Rattle.sy_reader.proofs.Loops.{reads_same, listed_from}

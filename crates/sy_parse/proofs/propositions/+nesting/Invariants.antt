@@ -1,4 +1,4 @@
-use Rattle.std.proofs.Common.{◌≡◌, ◌≤◌, ◌<◌, ℕ, ◌+◌, ◌*◌, ◌-◌, length}
+use Rattle.std.proofs.Common.{◌≡◌, ◌≤◌, ◌<◌, ◌+◌, ◌*◌, ◌-◌, length}
 use Rattle.sy_lex.specs.declared.keyword.Keyword.TheVariants.{And, Or}
 use Rattle.sy_tree.specs.declared.sort.Sort.TheVariants as S
 use Rattle.sy_reader.specs.Reader.{and_more, while_at, is_sort}
