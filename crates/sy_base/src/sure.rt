@@ -1,7 +1,9 @@
-ghost use Rattle.std.specs.Prelude.{◌≡◌, ◌<◌, ◌≤◌, ◌-◌, min, true, Some, None, length, take, [], find, nat_eq, unwrap_or, IfOk};
+ghost use Rattle.std.specs.Prelude.{◌≡◌, ◌<◌, ◌≤◌, ◌-◌, ◌++◌, min, true, Some, None, Ok, length, take, [], find, nat_eq, unwrap_or, IfOk};
+ghost use Rattle.std.specs.Io.{ReadsAtMost, WritesAtMost};
+ghost use Rattle.std.specs.Io.KnownBytes.{ReadConsumes, WriteAppends};
 ghost use Rattle.std.specs.Option.{option_copied};
 ghost use Rattle.std.specs.Cmp.Lexicographic.{pointwise};
-ghost use Rattle.sy_base.specs.Outside.{StandsAt};
+ghost use Rattle.sy_base.specs.Outside.{HasCause, StandsAt};
 ghost use Rattle.sy_base.specs.Sure.{file_of};
 
 use crate::{Failed, Files, List, Memory, Sink, Source, Text};
@@ -15,7 +17,7 @@ pub struct Named {
     pub bytes: Text,
 }
 
-// Copies the first of these bytes, at most so many, as far as there is room. It says how many.
+/// Copies the first of these bytes, at most so many, as far as there is room. It says how many.
 pub(crate) fn copy_front(from: &[u8], most: usize, buf: &mut [u8]) -> usize
     ensures within { result ≤ length from.now }
     ensures room { result ≤ length buf.new }
@@ -28,7 +30,7 @@ pub(crate) fn copy_front(from: &[u8], most: usize, buf: &mut [u8]) -> usize
     count
 }
 
-// Copies the bytes of a file from there on, as far as there is room.
+/// Copies the bytes of a file from there on, as far as there is room.
 pub(crate) fn copy_part(file: &[u8], from: u64, buf: &mut [u8]) -> usize
     ensures stands { StandsAt file.now from result buf.new }
     ensures count { result ≡ min (length file.now - from) (length buf.new) }
@@ -37,7 +39,7 @@ pub(crate) fn copy_part(file: &[u8], from: u64, buf: &mut [u8]) -> usize
     copy_front(&file[from..], usize::MAX, buf)
 }
 
-// The first file with this name.
+/// The first file with this name.
 pub(crate) fn find_file<'a>(files: &'a [Named], name: &Text) -> Option<&'a Named>
     ensures { option_copied result ≡ find (λ f. pointwise nat_eq f.name name.now) files.now }
 {
@@ -62,6 +64,7 @@ impl Model for SureFiles {
 }
 
 impl SureFiles {
+    /// These files and no others.
     pub fn new(files: List<Named>) -> SureFiles
         ensures { result ≡ files }
     {
@@ -84,8 +87,7 @@ impl Files for SureFiles {
     }
 }
 
-/// A source in memory that never fails and gives at most `most` bytes per read. Contracts see the
-/// bytes that are left.
+/// A source in memory that never fails and gives at most `most` bytes per read.
 #[derive(Debug, Drop)]
 pub struct SureSource {
     bytes: Text,
@@ -94,30 +96,39 @@ pub struct SureSource {
 }
 
 impl Model for SureSource {
-    ghost use Rattle.std.specs.Prelude.{List, ℕ, drop, ◌<◌, ◌≤◌, length};
+    ghost use Rattle.std.specs.Prelude.{drop, ◌<◌, ◌≤◌, length};
+    ghost use Rattle.sy_base.specs.Sure.{SureSourceState};
 
-    ghost Value = { List ℕ };
+    ghost Value = { SureSourceState };
 
-    ghost view = { λ s. drop s.at s.bytes };
+    ghost view = { λ s. record { left = drop s.at s.bytes; most = s.most } };
 
     ghost invariant = { λ s. (0 < s.most) × (s.at ≤ length s.bytes) };
 }
 
 impl SureSource {
+    /// A source of these bytes. `most` is at least 1.
     pub fn new(bytes: Text, most: usize) -> SureSource
         requires { 0 < most }
-        ensures { result ≡ bytes }
+        ensures { result ≡ record { left = bytes; most = most } }
     {
         SureSource { bytes, at: 0, most }
     }
 }
 
 impl Source for SureSource {
-    ghost left = { λ bytes. Some bytes };
+    ghost left = { λ s. Some s.left };
 
     ghost faults = { λ _. 0 };
 
-    fn read(&mut self, buf: &mut [u8]) -> Result<usize, Failed> {
+    /// It gives all that is left, as far as `most` and `buf` allow.
+    fn read(&mut self, buf: &mut [u8]) -> Result<usize, Failed>
+        ensures bound { ReadsAtMost result buf.new }
+        ensures bytes { ReadConsumes (Some self.old.left) (Some self.new.left) result buf.new }
+        ensures cause { HasCause 0 0 result }
+        ensures count { result ≡ Ok (min self.old.most (min (length self.old.left) (length buf.new))) }
+        ensures most { self.new.most ≡ self.old.most }
+    {
         let count = copy_front(&self.bytes.bytes()[self.at..], self.most, buf);
         self.at += count;
         Ok(count)
@@ -125,16 +136,30 @@ impl Source for SureSource {
 }
 
 /// A sink in memory that takes every write whole and never fails. It keeps the first bytes that it
-/// has room for, and tells contracts nothing of them.
+/// has room for. As a `Sink` it tells nothing of them.
 #[derive(Debug, Drop)]
 pub struct SureSink {
     kept: Vec<u8>,
     room: usize,
 }
 
+impl Model for SureSink {
+    ghost use Rattle.std.specs.Prelude.{◌≤◌, vec_len};
+    ghost use Rattle.std.specs.Vec.{vec_capacity};
+    ghost use Rattle.sy_base.specs.Sure.{SureSinkState};
+
+    ghost Value = { SureSinkState };
+
+    ghost view = { λ s. record { kept = s.kept.items; room = s.room } };
+
+    ghost invariant = { λ s. (vec_len s.kept ≤ s.room) × (s.room ≤ vec_capacity s.kept) };
+}
+
 impl SureSink {
     /// A sink that keeps at most `room` bytes. It takes the memory for them at once.
-    pub fn new(alloc: Global, room: usize) -> Result<SureSink, Memory> {
+    pub fn new(alloc: Global, room: usize) -> Result<SureSink, Memory>
+        ensures { IfOk result (λ s. s ≡ record { kept = []; room = room }) }
+    {
         Ok(SureSink {
             kept: Vec::with_capacity(alloc, room)?,
             room,
@@ -142,8 +167,10 @@ impl SureSink {
     }
 
     /// What it keeps.
-    pub fn bytes(&self) -> &[u8] {
-        &self.kept
+    pub fn bytes(&self) -> &[u8]
+        ensures { result.now ≡ self.now.kept }
+    {
+        self.kept.as_slice()
     }
 }
 
@@ -152,10 +179,18 @@ impl Sink for SureSink {
 
     ghost faults = { λ _. 0 };
 
-    fn write(&mut self, bytes: &[u8]) -> Result<usize, Failed> {
-        let left = self.room.saturating_sub(self.kept.len());
+    /// It takes all of the bytes, and keeps the first of them, as far as there is room.
+    fn write(&mut self, bytes: &[u8]) -> Result<usize, Failed>
+        ensures bound { WritesAtMost result bytes.now }
+        ensures progress { IfOk result (λ n. 0 < length bytes.now → 0 < n) }
+        ensures bytes { WriteAppends None None result bytes.now }
+        ensures cause { HasCause 0 0 result }
+        ensures whole { result ≡ Ok (length bytes.now) }
+        ensures kept { self.new ≡ record self.old { kept = take self.old.room (self.old.kept ++ bytes.now) } }
+    {
+        let left = self.room - self.kept.len();
         let count = left.min(bytes.len());
-        let _ = self.kept.extend_from_slice(&bytes[..count]);
+        self.kept.extend_from_slice(&bytes[..count]).unwrap();
         Ok(bytes.len())
     }
 }
