@@ -10,8 +10,8 @@ use crate::{Failed, Files, List, Memory, Named, Sink, Source, Text};
 use std::alloc::Global;
 use std::marker::Model;
 
-// Which calls on an object are to fail, counted from 1, and how many were made and have failed. Both
-// counts stop at 2^64 - 1.
+/// Which calls on an object are to fail, counted from 1, and how many were made and have failed. Both
+/// counts stop at 2^64 - 1.
 #[derive(Debug, Drop)]
 struct Plan {
     failing: List<u64>,
@@ -38,7 +38,7 @@ impl Plan {
         }
     }
 
-    // Counts a call that fails.
+    /// Counts a call that fails.
     fn fail(&mut self) -> Failed
         ensures counted { self.new ≡ after_call self.old true }
         ensures rose { RoseSince self.old.faults self.new.faults }
@@ -48,7 +48,7 @@ impl Plan {
         Failed
     }
 
-    // Counts a call that can be done. It fails where that is planned.
+    /// Counts a call that can be done. It fails where that is planned.
     fn call(&mut self) -> Result<(), Failed>
         ensures planned { is_err result ≡ is_planned self.old }
         ensures counted { self.new ≡ after_call self.old (is_err result) }
