@@ -6,7 +6,7 @@ ghost use Rattle.sy_base.specs.Writing.{WritesAll};
 use crate::{Failed, Sink};
 
 /// Writes all the bytes, in as few writes as the sink takes. On `Failed` a prefix of them was
-/// appended.
+/// appended, and some were left to write.
 pub fn write_all<W: Sink>(sink: &mut W, bytes: &[u8]) -> Result<(), Failed>
     ensures bytes { WritesAll (W.held sink.old) (W.held sink.new) result bytes.now }
     ensures cause { HasCause (W.faults sink.old) (W.faults sink.new) result }
