@@ -1,5 +1,4 @@
 use Rattle.std.proofs.Common.{◌≡◌, ◌∙◌, ◌≤◌, ◌-◌, ◌++◌, min, ℕ, List, ap, length, take}
-use Rattle.std.specs.Result.{is_ok}
 use Rattle.sy_base.proofs.Keeping.{take-kept}
 use Rattle.sy_base.proofs.sure.SureSinkSink.write.Goals as goal
 
