@@ -1,10 +1,15 @@
 -- One read of a file after what was read of it.
-use Rattle.std.proofs.Common.{◌≡◌, ℕ, ◌+◌, List, ◌++◌, None, Some, Ok, length, take, drop, sym, ap, ◌∙◌}
+use Rattle.std.proofs.Common.{◌≡◌, ℕ, ◌+◌, List, [], ◌++◌, None, Some, Ok, length, take, drop, sym, ap, ◌∙◌}
 use Rattle.std.proofs.Math.Seq.{take-add}
 use Rattle.std.proofs.lemmas.List.{length-append, length-take-le}
 use Rattle.std.specs.declared.option.Option.{Option}
 use Rattle.sy_base.specs.Outside.{GivesFile}
-use Rattle.sy_base.specs.Reading.{IsRead}
+
+-- what was read so far of a file that is told or not
+abbrev pub IsRead : Option (Option (List ℕ)) → List ℕ → Type 0
+IsRead None text = Unit {0}
+IsRead (Some None) text = text ≡ []
+IsRead (Some (Some file)) text = text ≡ take (length text) file
 
 pub IsRead-more : (E : Type 0) (told : Option (Option (List ℕ))) (text buf : List ℕ) (n : ℕ)
     → IsRead told text → GivesFile {E = E} told (length text) (Ok n) buf → IsRead told (text ++ take n buf)

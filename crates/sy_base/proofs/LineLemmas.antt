@@ -2,7 +2,8 @@
 use Rattle.std.proofs.Common.{◌≡◌, ℕ, ◌<◌, ◌+◌, List, [], ◌∷◌, ◌++◌, length, take, drop, ◌≤◌, get_or, true, false, cond, eqb, refl, ap, ◌∙◌, sym, ◌≢◌, arith}
 use Rattle.std.proofs.lemmas.List.{take_more, take-append-drop, take-take}
 use Rattle.std.proofs.lemmas.Bool.Decides.{nat_tests}
-use Rattle.sy_base.specs.Lines.{has_newline, lines_of, onto_first}
+use Rattle.std.specs.List.{onto_first}
+use Rattle.sy_base.specs.Lines.{has_newline, lines_of}
 
 pub has_newline-append : (xs ys : List ℕ) → has_newline xs ≡ false → has_newline (xs ++ ys) ≡ has_newline ys
 has_newline-append [] ys p = refl

@@ -4,7 +4,8 @@ use Rattle.std.proofs.KnownBytes.{starts_with_rest}
 use Rattle.std.proofs.Math.Seq.{take-append-add, drop-append-add}
 use Rattle.std.proofs.lemmas.List.{take-append-le, take_all, length-append, length-drop, length-take}
 use Rattle.std.specs.Io.{StartsWith}
-use Rattle.sy_base.specs.Lines.{has_newline, StandsFirst}
+use Rattle.sy_base.specs.Lines.{has_newline}
+use Rattle.sy_base.specs.Machine.Filling.{StandsFirst}
 use Rattle.sy_base.proofs.LineLemmas.{has_newline-append}
 
 pub not_true : (b : Bool) → b ≡ false → IsTrue b → ⊥

@@ -3,8 +3,9 @@ use Rattle.std.proofs.Common.{◌≡◌, ℕ, ◌<◌, ◌⊎◌, inl, inr, List
 use Rattle.std.proofs.lemmas.List.{take-append-drop, length-append, length-take-le}
 use Rattle.std.specs.declared.option.Option.{Option}
 use Rattle.std.specs.Io.KnownBytes.{Consumes, IsAtEnd}
-use Rattle.sy_base.specs.Lines.{has_newline, lines_of, onto_first}
-use Rattle.sy_base.specs.Reader.{Reading}
+use Rattle.std.specs.List.{onto_first}
+use Rattle.sy_base.specs.Lines.{has_newline, lines_of}
+use Rattle.sy_base.specs.LineReaderState.{LineReaderState}
 use Rattle.sy_base.specs.LineReading.{Next, CutsLines}
 use Rattle.sy_base.specs.declared.lines.Line.{Line}
 use Rattle.sy_base.specs.declared.lines.LineFault.{LineFault}
@@ -60,7 +61,7 @@ some_line (x ∷ xs) h =
 pub taken_from : (bytes rest taken : List ℕ) (left : Option (List ℕ)) → left ≡ Some rest → Consumes (Some bytes) left taken → bytes ≡ taken ++ rest
 taken_from bytes rest taken left e p = subst (λ l. Consumes (Some bytes) l taken) e p
 
-module _ (old new : Reading) (bytes rest : List ℕ) (left : Option (List ℕ)) (e : left ≡ Some rest) (synced : IsTrue old.ended → bytes ≡ []) where
+module _ (old new : LineReaderState) (bytes rest : List ℕ) (left : Option (List ℕ)) (e : left ≡ Some rest) (synced : IsTrue old.ended → bytes ≡ []) where
   at_end : (taken : List ℕ) → bytes ≡ taken ++ rest → (IsTrue new.ended → IsTrue old.ended ⊎ IsAtEnd left) → IsTrue new.ended → rest ≡ []
   at_end taken p ends now = elim (ends now) [ inl was ↦ no_rest taken rest (sym p ∙ synced was) | inr over ↦ subst IsAtEnd e over ]
     where

@@ -1,12 +1,12 @@
 pub mod Dates
-pub mod Filling
+pub mod FileReading
+pub mod LineReaderState
 pub mod LineReading
 pub mod Lines
+pub mod Machine
 pub mod Outside
 pub mod Planned
 pub mod Points
-pub mod Reader
-pub mod Reading
 pub mod Refusals
 pub mod Sure
 pub mod Writing

@@ -3,12 +3,12 @@ use Rattle.std.specs.Prelude.{◌≡◌, ℕ, ◌+◌, ◌^◌, ◌<◌, ◌≤�
 use Rattle.std.specs.declared.option.Option.{Option}
 use Rattle.std.specs.Io.KnownBytes.{Consumes, IsAtEnd}
 use Rattle.sy_base.specs.Lines.{has_newline, lines_of}
-use Rattle.sy_base.specs.Reader.{Reading}
-use Rattle.sy_base.specs.declared.outside.TheConstants.{PIECE}
+use Rattle.sy_base.specs.LineReaderState.{LineReaderState}
 use Rattle.sy_base.specs.declared.lines.Line.{Line}
 use Rattle.sy_base.specs.declared.lines.LineFault.{LineFault}
 use Rattle.sy_base.specs.declared.lines.LineFault.TheVariants.{ReadFault, TooLong, TooManyLines, Memory}
 
+-- a fault that a call outside made
 abbrev pub is_read_fault : LineFault → Bool
 is_read_fault ReadFault = true
 is_read_fault TooLong = false
@@ -32,38 +32,41 @@ pub record IsFirst (bytes rest : List ℕ) (ended : Bool) (given : ℕ) (line : 
 abbrev pub Cuts : List ℕ → List ℕ → Bool → ℕ → Result (Option Line) LineFault → Type 0
 Cuts bytes rest ended given (Ok (Some line)) = IsFirst bytes rest ended given line
 Cuts bytes rest ended given (Ok None) = (bytes ≡ []) × (rest ≡ []) × IsTrue ended
-Cuts bytes rest ended given (Err ReadFault) = (has_newline bytes ≡ false) × (rest ≡ bytes) × (ended ≡ false)
-Cuts bytes rest ended given (Err TooLong) = (4096 < length bytes) × (has_newline (take 4097 bytes) ≡ false) × (given < 2 ^ 32)
+Cuts bytes rest ended given (Err ReadFault) =
+    (has_newline bytes ≡ false) × (rest ≡ bytes) × (ended ≡ false) × (length bytes ≤ 4096)
+Cuts bytes rest ended given (Err TooLong) =
+    (4096 < length bytes) × (has_newline (take 4097 bytes) ≡ false) × (given < 2 ^ 32) × (length bytes ≤ 4096 + 65536)
 Cuts bytes rest ended given (Err TooManyLines) = (0 < length bytes) × (given ≡ 2 ^ 32)
 Cuts bytes rest ended given (Err Memory) = ⊤
 
 -- what the reader is after an answer
-abbrev pub Goes : Reading → Reading → Result (Option Line) LineFault → Type 0
+abbrev pub Goes : LineReaderState → LineReaderState → Result (Option Line) LineFault → Type 0
 Goes old new (Ok (Some line)) = (new.given ≡ old.given + 1) × IsTrue new.live
 Goes old new (Ok None) = (new.given ≡ old.given) × IsTrue new.live
 Goes old new (Err e) = (new.given ≡ old.given) × (new.live ≡ false)
 
--- all of these bytes but those of the last read hold no newline
+-- before the last read, of at most 65,536 bytes, no newline was held, and at most 4,096 bytes
 pub record ReadsAsNeeded (bytes : List ℕ) : Type 0 where
   pub before : ℕ
   pub none : has_newline (take before bytes) ≡ false
-  pub last : length bytes ≤ before + PIECE
+  pub few : before ≤ 4096
+  pub last : length bytes ≤ before + 65536
 
 -- it took these bytes from the source, and answered for what it then had
-pub record Next (old new : Reading) (left_old left_new : Option (List ℕ)) (result : Result (Option Line) LineFault) : Type 0 where
+pub record Next (old new : LineReaderState) (left_old left_new : Option (List ℕ)) (result : Result (Option Line) LineFault) : Type 0 where
   pub taken : List ℕ
   pub consumed : Consumes left_old left_new taken
   pub cuts : Cuts (old.held ++ taken) new.held new.ended old.given result
   pub goes : Goes old new result
   pub ended : IsTrue new.ended → IsTrue old.ended ⊎ IsAtEnd left_new
   pub stays : IsTrue old.ended → IsTrue new.ended
-  -- it reads on only while it has no whole line
+  -- it reads on only while it has no whole line, and no more than a line may have
   pub needed : (taken ≡ []) ⊎ ReadsAsNeeded (old.held ++ taken)
   -- it doesn't read where it has a whole line or was told the end
   pub idle : (IsTrue (has_newline old.held) ⊎ IsTrue old.ended) → taken ≡ []
 
 -- what was given is the first of the lines of all bytes that were held or left
-abbrev pub CutsLines : Reading → Reading → List ℕ → List ℕ → Result (Option Line) LineFault → Type 0
+abbrev pub CutsLines : LineReaderState → LineReaderState → List ℕ → List ℕ → Result (Option Line) LineFault → Type 0
 CutsLines old new bytes rest (Ok (Some line)) = lines_of (old.held ++ bytes) ≡ line.bytes ∷ lines_of (new.held ++ rest)
 CutsLines old new bytes rest (Ok None) = old.held ++ bytes ≡ []
 CutsLines old new bytes rest (Err TooLong) =

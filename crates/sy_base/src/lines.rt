@@ -1,12 +1,12 @@
-ghost use Rattle.std.specs.Prelude.{◌≡◌, ◌≤◌, ◌<◌, ◌+◌, ◌⊎◌, ◌++◌, IsTrue, IsNone, IsSome, OnOk, OnErr, IfOk, IfErr, Some, List, [], ℕ, length, drop, false, vec_len};
+ghost use Rattle.std.specs.Prelude.{◌≡◌, ◌≤◌, ◌<◌, ◌+◌, ◌^◌, ◌⊎◌, ◌++◌, IsTrue, IsNone, IsSome, OnOk, OnErr, IfOk, IfErr, Some, List, [], ℕ, length, drop, false, vec_len};
 ghost use Rattle.std.specs.Option.{is_some};
 ghost use Rattle.std.specs.Io.{StartsWith, appended_bytes};
 ghost use Rattle.std.specs.Io.KnownBytes.{Consumes, IsAtEnd};
 ghost use Rattle.sy_base.specs.Outside.{CauseOf};
-ghost use Rattle.sy_base.specs.Lines.{has_newline, IsFirstNewline};
-ghost use Rattle.sy_base.specs.Reader.{new_reading};
+ghost use Rattle.sy_base.specs.Lines.{has_newline};
+ghost use Rattle.sy_base.specs.LineReaderState.{new_line_reader};
 ghost use Rattle.sy_base.specs.LineReading.{CutsLines, Next, ReadsAsNeeded, is_read_fault};
-ghost use Rattle.sy_base.specs.Filling.{CutsHeld, IsReadingFault, LeavesOff};
+ghost use Rattle.sy_base.specs.Machine.Filling.{CutsHeld, IsFirstNewline, IsReadingFault, LeavesOff};
 ghost use Rattle.sy_base.specs.declared.lines.LineFault.TheVariants.{ReadFault, Memory as OutOfMemory};
 
 use crate::outside::PIECE;
@@ -65,7 +65,7 @@ pub const LINE_LIMIT: usize = 4096;
 /// The greatest number of lines.
 pub const LINE_COUNT: u64 = 1 << 32;
 
-// Where the first newline stands.
+/// Where the first newline stands.
 fn newline_at(bytes: &[u8]) -> Option<usize>
     ensures { IsFirstNewline bytes.now result }
 {
@@ -77,7 +77,7 @@ fn newline_at(bytes: &[u8]) -> Option<usize>
     None
 }
 
-// One read of the source onto the end of what is held.
+/// One read of the source onto the end of what is held.
 fn read_more<S: Source>(
     piece: &mut [u8],
     held: &mut Vec<u8>,
@@ -108,8 +108,8 @@ fn read_more<S: Source>(
     Ok(())
 }
 
-// Reads until a newline is held, the source has ended, or more is held than a line may have. It
-// says where the newline stands, and looks at each byte that it reads once.
+/// Reads until a newline is held, the source has ended, or more is held than a line may have. It
+/// says where the newline stands, and looks at each byte that it reads once.
 fn fill<S: Source>(
     piece: &mut [u8],
     held: &mut Vec<u8>,
@@ -122,11 +122,12 @@ fn fill<S: Source>(
     ensures starts { StartsWith held.new.items held.old.items }
     ensures bytes { Consumes (S.left source.old) (S.left source.new) (appended_bytes held.old.items held.new.items) }
     ensures place { IfOk result (IsFirstNewline held.new.items) }
-    ensures whole { IfOk result (λ place. IsNone place → IsTrue ended.new ⊎ (LINE_LIMIT < length held.new.items)) }
+    ensures whole { IfOk result (λ place. IsNone place → IsTrue ended.new ⊎ (4096 < length held.new.items)) }
     ensures ended { IsTrue ended.new → IsTrue ended.old ⊎ IsAtEnd (S.left source.new) }
     ensures stays { IsTrue ended.old → IsTrue ended.new }
     ensures idle { IsTrue ended.old → held.new.items ≡ held.old.items }
-    ensures needed { ReadsAsNeeded held.new.items }
+    ensures needed { (held.new.items ≡ held.old.items) ⊎ ReadsAsNeeded held.new.items }
+    ensures few { length held.old.items ≤ 4096 + 65536 → length held.new.items ≤ 4096 + 65536 }
     ensures err { IfErr result (LeavesOff held.new.items ended.new) }
 
     ensures cause { CauseOf is_read_fault (S.faults source.old) (S.faults source.new) result }
@@ -142,7 +143,7 @@ fn fill<S: Source>(
     Ok(None)
 }
 
-// Takes the first bytes out of the buffer.
+/// Takes the first bytes out of the buffer.
 fn drop_front(buffer: &mut Vec<u8>, count: usize)
     requires { count ≤ length buffer.old.items }
     ensures { buffer.new.items ≡ drop count buffer.old.items }
@@ -152,14 +153,14 @@ fn drop_front(buffer: &mut Vec<u8>, count: usize)
     buffer.truncate(left);
 }
 
-// A line, and how many bytes of what is held it took, with its newline.
+/// A line, and how many bytes of what is held it took, with its newline.
 #[derive(Drop)]
 struct Cut {
     line: Line,
     size: usize,
 }
 
-// Cuts off the first line of what is held: up to its newline, or all where it has none.
+/// Cuts off the first line of what is held: up to its newline, or all where it has none.
 fn cut_line(
     alloc: Global,
     held: &[u8],
@@ -167,7 +168,7 @@ fn cut_line(
     given: u64,
 ) -> Result<Option<Cut>, LineFault>
     requires place { IsFirstNewline held.now newline }
-    requires count { given ≤ LINE_COUNT }
+    requires count { given ≤ 2 ^ 32 }
     ensures cuts { CutsHeld held.now newline given result }
     ensures no_fault { IfErr result (λ e. is_read_fault e ≡ false) }
 {
@@ -191,8 +192,8 @@ fn cut_line(
     Ok(Some(Cut { line, size }))
 }
 
-// Finds the first newline of what is held, which stands in the buffer from `at` on. It reads on
-// where there is none yet, and first moves what is held to the front.
+/// Finds the first newline of what is held, which stands in the buffer from `at` on. It reads on
+/// where there is none yet, and first moves what is held to the front.
 fn find_newline<S: Source>(
     piece: &mut [u8],
     buffer: &mut Vec<u8>,
@@ -207,11 +208,12 @@ fn find_newline<S: Source>(
     ensures starts { StartsWith (drop at.new buffer.new.items) (drop at.old buffer.old.items) }
     ensures bytes { Consumes (S.left source.old) (S.left source.new) (appended_bytes (drop at.old buffer.old.items) (drop at.new buffer.new.items)) }
     ensures place { IfOk result (IsFirstNewline (drop at.new buffer.new.items)) }
-    ensures whole { IfOk result (λ place. IsNone place → IsTrue ended.new ⊎ (LINE_LIMIT < length (drop at.new buffer.new.items))) }
+    ensures whole { IfOk result (λ place. IsNone place → IsTrue ended.new ⊎ (4096 < length (drop at.new buffer.new.items))) }
     ensures ended { IsTrue ended.new → IsTrue ended.old ⊎ IsAtEnd (S.left source.new) }
     ensures stays { IsTrue ended.old → IsTrue ended.new }
     ensures idle { (IsTrue (has_newline (drop at.old buffer.old.items)) ⊎ IsTrue ended.old) → drop at.new buffer.new.items ≡ drop at.old buffer.old.items }
     ensures needed { (drop at.new buffer.new.items ≡ drop at.old buffer.old.items) ⊎ ReadsAsNeeded (drop at.new buffer.new.items) }
+    ensures few { length buffer.old.items ≤ at.old + 4096 + 65536 → length buffer.new.items ≤ at.new + 4096 + 65536 }
     ensures err { IfErr result (LeavesOff (drop at.new buffer.new.items) ended.new) }
 
     ensures cause { CauseOf is_read_fault (S.faults source.old) (S.faults source.new) result }
@@ -225,13 +227,14 @@ fn find_newline<S: Source>(
     fill(piece, buffer, ended, source)
 }
 
-/// Cuts a source into lines. It reads only while it holds no whole line and was not told the end.
+/// Cuts a source into lines. It reads only while it holds no whole line, holds no more bytes than a
+/// line may have, and was not told the end.
 #[derive(Drop)]
 pub struct LineReader {
     alloc: Global,
-    // What a read fills.
+    /// What a read fills.
     piece: Vec<u8>,
-    // The bytes that were read. Those from `at` on are held: they were not given yet.
+    /// The bytes that were read. Those from `at` on are held: they were not given yet.
     buffer: Vec<u8>,
     at: usize,
     live: bool,
@@ -240,21 +243,21 @@ pub struct LineReader {
 }
 
 impl Model for LineReader {
-    ghost use Rattle.std.specs.Prelude.{◌≡◌, ◌≤◌, ◌^◌, drop, length};
-    ghost use Rattle.sy_base.specs.Reader.{Reading};
+    ghost use Rattle.std.specs.Prelude.{◌≡◌, ◌≤◌, ◌+◌, ◌^◌, drop, length};
+    ghost use Rattle.sy_base.specs.LineReaderState.{LineReaderState};
     ghost use Rattle.sy_base.specs.declared.outside.TheConstants.{PIECE};
 
-    ghost Value = { Reading };
+    ghost Value = { LineReaderState };
 
     ghost view = { λ r. record { live = r.live; ended = r.ended; held = drop r.at r.buffer.items; given = r.given } };
 
-    ghost invariant = { λ r. (r.given ≤ 2 ^ 32) × (r.at ≤ length r.buffer.items) × (length r.piece.items ≡ PIECE) };
+    ghost invariant = { λ r. (r.given ≤ 2 ^ 32) × (r.at ≤ length r.buffer.items) × (length r.buffer.items ≤ r.at + 4096 + 65536) × (length r.piece.items ≡ PIECE) };
 }
 
 impl LineReader {
     /// A reader that has given no line.
     pub fn new(alloc: Global) -> Result<LineReader, Memory>
-        ensures { IfOk result (λ r. r ≡ new_reading) }
+        ensures { IfOk result (λ r. r ≡ new_line_reader) }
     {
         Ok(LineReader {
             alloc,
@@ -287,7 +290,8 @@ impl LineReader {
         self.advance(source)
     }
 
-    // The next line, by what is held and what is read.
+    /// What `next` does. The exact contract stands here, since it alone gives the clause `lines` of
+    /// `next`, whichever way the call ends.
     fn advance<S: Source>(&mut self, source: &mut S) -> Result<Option<Line>, LineFault>
         requires { IsTrue self.old.live }
         ensures next { Next self.old self.new (S.left source.old) (S.left source.new) result }
@@ -302,18 +306,17 @@ impl LineReader {
             &mut self.ended,
             source,
         )?;
-        match cut_line(self.alloc, &self.buffer[self.at..], newline, self.given) {
-            Ok(Some(Cut { line, size })) => {
+        match cut_line(self.alloc, &self.buffer[self.at..], newline, self.given)? {
+            Some(Cut { line, size }) => {
                 self.live = true;
                 self.at += size;
                 self.given += 1;
                 Ok(Some(line))
             }
-            Ok(None) => {
+            None => {
                 self.live = true;
                 Ok(None)
             }
-            Err(fault) => Err(fault),
         }
     }
 }

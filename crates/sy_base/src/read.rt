@@ -1,6 +1,6 @@
 ghost use Rattle.std.specs.Prelude.{◌≡◌, ◌≤◌, ◌↔◌, ℕ, List, IsTrue, IfOk, IsErrOf, length};
 ghost use Rattle.sy_base.specs.Outside.{CauseOf};
-ghost use Rattle.sy_base.specs.Reading.{IsContent, IsTooBig, is_file_fault};
+ghost use Rattle.sy_base.specs.FileReading.{IsContent, IsTooBig, is_file_fault};
 ghost use Rattle.sy_base.specs.declared.read.FileFault.TheVariants.{ReadFault, Memory};
 
 use crate::outside::PIECE;
@@ -44,7 +44,7 @@ pub fn read_file<F: Files>(alloc: Global, files: &mut F, name: &Text) -> Result<
     requires { IsTrue (F.lent files.old name.now) }
 
     ensures content { IfOk result (IsContent (F.told files.old name.now)) }
-    ensures limit { IfOk result (λ text. length text ≤ FILE_LIMIT) }
+    ensures limit { IfOk result (λ text. length text ≤ 1048576) }
     ensures too_big { IsErrOf result FileFault.TooBig → IsTooBig (F.told files.old name.now) }
 
     ensures cause { CauseOf is_file_fault (F.faults files.old) (F.faults files.new) result }

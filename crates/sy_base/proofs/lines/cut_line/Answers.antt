@@ -1,5 +1,6 @@
 use Rattle.std.proofs.Common.{◌≡◌, ◌^◌, ◌<◌, arith, ap, subst, false}
-use Rattle.sy_base.specs.Lines.{has_newline, IsFirstNewline, StandsFirst}
+use Rattle.sy_base.specs.Lines.{has_newline}
+use Rattle.sy_base.specs.Machine.Filling.{IsFirstNewline, StandsFirst}
 use Rattle.sy_base.proofs.LineLemmas.{has_newline-shorter, has_newline-take}
 use Rattle.sy_base.proofs.lines.cut_line.Goals as goal
 use Rattle.sy_base.proofs.lines.cut_line.Goals.{in-Some, in-None}

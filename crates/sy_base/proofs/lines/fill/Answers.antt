@@ -1,6 +1,7 @@
-use Rattle.std.proofs.Common.{◌≡◌, ◌∙◌, inl, inr, sym, ap, subst, length, drop, ◌+◌}
+use Rattle.std.proofs.Common.{◌≡◌, ◌∙◌, inl, inr, sym, ap, subst, length, drop, ◌+◌, arith}
 use Rattle.std.proofs.KnownBytes.{Consumes-more}
-use Rattle.sy_base.specs.Lines.{has_newline, StandsFirst}
+use Rattle.sy_base.specs.Lines.{has_newline}
+use Rattle.sy_base.specs.Machine.Filling.{StandsFirst}
 use Rattle.sy_base.proofs.ReadLemmas.{not_true, rest_of, StartsWith-trans, StandsFirst-read, has_newline-read}
 use Rattle.sy_base.proofs.lines.fill.Goals as goal
 
@@ -28,6 +29,13 @@ reads-preserved g c =
       ended = λ t. elim (c.in_ok-read_more.ensures.ended t) [ inl e ↦ absurd (open_end e) | inr e ↦ inr e ];
       stays = λ t. c.in_ok-read_more.ensures.stays (c.reads.invariant.stays t);
       idle = λ e. absurd (open_end (c.reads.invariant.stays e));
+      needed = inr (record {
+        before = length c.reads.held.items;
+        none = ap has_newline c.in_ok-read_more.ensures.starts ∙ c.reads.invariant.none;
+        few = omega arith;
+        last = c.in_ok-read_more.ensures.piece;
+      });
+      few = λ h. omega (arith, c.in_ok-read_more.ensures.piece);
       faults = c.in_ok-read_more.ensures.cause ∙ c.reads.invariant.faults;
       told = c.in_ok-read_more.ensures.told ∙ c.reads.invariant.told;
     }

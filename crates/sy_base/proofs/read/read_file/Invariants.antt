@@ -1,5 +1,5 @@
 use Rattle.std.proofs.Common.{◌≡◌, ◌-◌, ◌+◌, ℕ, List, vec_len}
-use Rattle.sy_base.specs.Reading.{IsRead}
+use Rattle.sy_base.proofs.FileReads.{IsRead}
 use Rattle.sy_base.specs.declared.read.TheConstants.{FILE_LIMIT}
 use Rattle.sy_base.proofs.read.read_file.Given as goal
 

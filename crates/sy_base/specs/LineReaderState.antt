@@ -1,7 +1,7 @@
 -- What a reader of lines keeps.
 use Rattle.std.specs.Prelude.{ℕ, Bool, true, false, List, []}
 
-pub record Reading : Type 0 where
+pub record LineReaderState : Type 0 where
   -- the next line may be asked for
   pub live : Bool
   -- a read has given it the end of input
@@ -12,5 +12,5 @@ pub record Reading : Type 0 where
   pub given : ℕ
 
 -- a new reader
-abbrev pub new_reading : Reading
-new_reading = record { live = true; ended = false; held = []; given = 0 }
+abbrev pub new_line_reader : LineReaderState
+new_line_reader = record { live = true; ended = false; held = []; given = 0 }
