@@ -5,12 +5,12 @@ use crate::{
 use std::alloc::Global;
 use std::test::Fail;
 
-// The lines of these bytes, each followed by a bar, and what ends them.
+/// The lines of these bytes, each followed by a bar, and what ends them.
 fn barred(alloc: Global, bytes: &[u8], most: usize) -> Result<Vec<u8>, LineFault> {
     let mut reader = LineReader::new(alloc)?;
     let mut source = SureSource::new(Text::new(alloc, bytes)?, most.max(1));
     let mut out = Vec::new(alloc);
-    'lines: for _ in 0..10_000 {
+    for _ in 0..10_000 {
         if !reader.live() {
             break;
         }
@@ -62,9 +62,50 @@ fn a_file_is_read_whole(rt: HostRuntime) -> Result<(), Fail> {
         read_file(rt.alloc(), &mut files, &name)?.bytes().len(),
         70_000
     );
+    Ok(())
+}
+
+/// Why the first of 5,000 bytes without a newline, read one by one, make no line, where one of the
+/// reads fails.
+fn long_line_fault(alloc: Global, failing: u64) -> Result<Option<LineFault>, Memory> {
+    let bytes = Text::from(vec![in alloc; b'x'; 5_000]?);
+    let mut source = MemSource::new(bytes, 1, only(alloc, failing)?);
+    let mut reader = LineReader::new(alloc)?;
+    Ok(reader.next(&mut source).err())
+}
+
+#[test]
+fn a_long_line_is_refused_before_a_later_fault(rt: HostRuntime) -> Result<(), Fail> {
+    let table = [
+        (1, LineFault::ReadFault),
+        (4_097, LineFault::ReadFault),
+        (4_098, LineFault::TooLong),
+        (4_500, LineFault::TooLong),
+    ];
+    for (failing, fault) in table {
+        assert_eq!(rt; long_line_fault(rt.alloc(), failing)?, Some(fault));
+    }
+    Ok(())
+}
+
+#[test]
+fn objects_in_memory_that_never_fail_go_on(rt: HostRuntime) -> Result<(), Fail> {
+    let mut source = SureSource::new(Text::new(rt.alloc(), b"abcde")?, 2);
     let mut sink = SureSink::new(rt.alloc(), 3)?;
-    assert!(rt; write_all(&mut sink, b"kept").is_ok());
-    assert_eq!(rt; sink.bytes(), b"kep".as_slice());
+    let calls: [(usize, &[u8], &[u8]); 4] = [
+        (2, b"a", b"a"),
+        (2, b"", b"a"),
+        (1, b"bcd", b"abc"),
+        (0, b"e", b"abc"),
+    ];
+    let mut buf = [0; 4];
+    for (given, piece, kept) in calls {
+        assert_eq!(rt; source.read(&mut buf), Ok(given));
+        assert_eq!(rt; sink.write(piece), Ok(piece.len()));
+        assert_eq!(rt; sink.bytes(), kept);
+    }
+    assert!(rt; write_all(&mut sink, b"more").is_ok());
+    assert_eq!(rt; sink.bytes(), b"abc".as_slice());
     Ok(())
 }
 
@@ -76,14 +117,14 @@ fn a_sink_takes_its_room_when_it_is_made(rt: HostRuntime) -> Result<(), Fail> {
     Ok(())
 }
 
-// A list of one number.
+/// A list of one number.
 fn only(alloc: Global, number: u64) -> Result<List<u64>, Memory> {
     let mut list = List::new(alloc);
     list.push(number)?;
     Ok(list)
 }
 
-// Files of which one has the name `deed` and three bytes.
+/// Files of which one has the name `deed` and three bytes.
 fn deed_files(alloc: Global, failing: List<u64>) -> Result<MemFiles, Memory> {
     let mut files = List::new(alloc);
     files.push(Named {
