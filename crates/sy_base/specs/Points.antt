@@ -1,5 +1,5 @@
 -- Points of time, their range in each unit, and what a duration adds to one.
-use Rattle.std.specs.Prelude.{ℕ, ◌*◌, ◌/◌, ℤ, pos, neg_ℤ, ◌+ℤ◌, ◌≤ℤ◌, Bool, nat_lt, List, codes}
+use Rattle.std.specs.Prelude.{ℕ, ◌*◌, ◌/◌, ℤ, pos, neg_ℤ, ◌+ℤ◌, ◌≤ℤ◌, Bool, nat_lt, List}
 use Rattle.sy_base.specs.declared.time.TimeUnit.{TimeUnit}
 use Rattle.sy_base.specs.declared.time.TimeUnit.TheVariants.{Minute, Hour, Day}
 use Rattle.sy_base.specs.declared.time.Measure.{Measure}
@@ -35,20 +35,6 @@ minutes_of_measure Minutes = 1
 minutes_of_measure Hours = 60
 minutes_of_measure Days = 1440
 minutes_of_measure Weeks = 10080
-
--- the word of a measure: the plural, which the canonical text has
-abbrev pub measure_word : Measure → List ℕ
-measure_word Minutes = codes "Minutes"
-measure_word Hours = codes "Hours"
-measure_word Days = codes "Days"
-measure_word Weeks = codes "Weeks"
-
--- the other word of a measure, which means the same: the singular
-abbrev pub singular_word : Measure → List ℕ
-singular_word Minutes = codes "Minute"
-singular_word Hours = codes "Hour"
-singular_word Days = codes "Day"
-singular_word Weeks = codes "Week"
 
 -- a measure is finer than a unit, so that no whole number of units stands for it
 abbrev pub is_finer : Measure → TimeUnit → Bool
