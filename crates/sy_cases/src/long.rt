@@ -1,9 +1,9 @@
-ghost use Rattle.std.specs.Prelude.{◌≡◌, length};
+ghost use Rattle.std.specs.Prelude.{◌<◌, ◌^◌, length};
 
 /// The first sale counted in minutes, with a payment that is due only after 400 years: the longest
 /// span that a duration has.
 pub fn l() -> &'static [u8]
-    ensures length { length result.now ≡ 214 }
+    ensures { length result.now < 2 ^ 32 }
 {
     b"\
 Domain s
@@ -23,7 +23,7 @@ endContract
 
 /// The binding of the long contract: it starts on 2024-01-01.
 pub fn l_bind() -> &'static [u8]
-    ensures length { length result.now ≡ 18 }
+    ensures { length result.now < 2 ^ 32 }
 {
     b"start 2024-01-01;\n"
 }

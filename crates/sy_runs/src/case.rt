@@ -1,4 +1,3 @@
-//! One run over objects in memory.
 ghost use Rattle.std.specs.Prelude.{◌≡◌, ◌<◌, List, ℕ, IsTrue};
 
 use std::alloc::Global;
@@ -6,13 +5,6 @@ use std::marker::Brand;
 use std::sync::ledger::{Blank, Ledger};
 use sy_base::{List, MemFiles, MemSink, MemSource, Memory, Named, Steps, Text};
 use sy_run::{Status, run};
-
-/// The specification of the first path, with its due date.
-pub const SPEC: &[u8] =
-    b"Domain s\nParty isA Role;\nPaid isAn Event;\nendDomain\nContract S() unit Day\nDeclarations\na: Party;\nb: Party;\npaid: Paid;\nObligations\noPay: O(a, b, true, happensBefore(paid, 2024-03-11));\nendContract\n";
-
-/// Its binding, with its start.
-pub const BIND: &[u8] = b"start 2024-03-01;\n";
 
 /// What a run is given: its words, its files, its input in pieces of at most so many bytes, and the
 /// numbers of the calls that are to fail, or 0 for none.

@@ -1,7 +1,6 @@
-//! Each read and each write made to fail in turn.
-
-use crate::case::{BIND, Case, SPEC, outcome};
+use crate::case::{Case, outcome};
 use std::test::Fail;
+use sy_cases::{s, s_bind};
 use sy_run::Status;
 
 // Three reports, of 18 bytes a line.
@@ -16,8 +15,8 @@ const REPORT: usize = 57;
 fn with_faults<'a>(file: u64, read: u64, write: u64) -> Case<'a> {
     Case {
         words: &[b"monitor", b"SPEC", b"BIND"],
-        spec: SPEC,
-        bind: BIND,
+        spec: s(),
+        bind: s_bind(),
         input: LOG,
         most: 1,
         failing_read_of_file: file,
@@ -54,5 +53,30 @@ fn a_failed_write_ends_the_run(rt: HostRuntime) -> Result<(), Fail> {
         assert_eq!(rt; ran.status, Status::WriteFault);
         assert_eq!(rt; ran.out.bytes(), &THREE[..(call as usize - 1) * REPORT]);
     }
+    Ok(())
+}
+
+#[test]
+fn what_isnt_called_cannot_fail(rt: HostRuntime) -> Result<(), Fail> {
+    // `compile` makes two reads of its file and one write, and reads no input.
+    let table = [
+        (1, 0, 0, Status::ReadFault),
+        (2, 0, 0, Status::ReadFault),
+        (3, 0, 0, Status::Done),
+        (0, 1, 0, Status::Done),
+        (0, 0, 1, Status::WriteFault),
+        (0, 0, 2, Status::Done),
+    ];
+    for (file, read, write, status) in table {
+        let mut case = with_faults(file, read, write);
+        case.words = &[b"compile", b"SPEC"];
+        let ran = outcome(rt.alloc(), &case)?;
+        assert_eq!(rt; ran.status, status);
+        assert_eq!(rt; ran.out.bytes().is_empty(), status != Status::Done);
+    }
+    // An empty log asks for no write.
+    let mut case = with_faults(0, 0, 1);
+    case.input = b"";
+    assert_eq!(rt; outcome(rt.alloc(), &case)?.status, Status::Done);
     Ok(())
 }

@@ -1,13 +1,12 @@
-//! Worked rows of the first path.
-
-use crate::case::{BIND, Case, SPEC, outcome};
+use crate::case::{Case, outcome};
 use std::test::Fail;
+use sy_cases::{s, s_bind, s_compiled};
 use sy_run::Status;
 
 const MONITOR: &[&[u8]] = &[b"monitor", b"SPEC", b"BIND"];
 
 const USAGE: &[u8] =
-    b"usage: symboleo compile SPEC | monitor SPEC BIND | check SPEC BIND PROPS BUDGET | certify SPEC BIND PROPS NAME BUDGET | verify SPEC BIND PROPS NAME | replay SPEC BIND PROPS NAME | make SEED COUNT\n";
+    b"usage: symboleo compile s() | monitor s() s_bind() | check s() s_bind() PROPS BUDGET | certify s() s_bind() PROPS NAME BUDGET | verify s() s_bind() PROPS NAME | replay s() s_bind() PROPS NAME | make SEED COUNT\n";
 
 const KEPT: &[u8] =
     b"report 2024-03-10\ncontract SuccessfulTermination\nobligation oPay Fulfillment\nend\n";
@@ -85,8 +84,8 @@ fn logs_are_answered(rt: HostRuntime) -> Result<(), Fail> {
         for most in [1, 7, 100_000] {
             let case = Case {
                 words: MONITOR,
-                spec: SPEC,
-                bind: BIND,
+                spec: s(),
+                bind: s_bind(),
                 input,
                 most,
                 failing_read_of_file: 0,
@@ -104,34 +103,35 @@ fn logs_are_answered(rt: HostRuntime) -> Result<(), Fail> {
 const COMPILE: &[&[u8]] = &[b"compile", b"SPEC"];
 
 /// What is compiled from the specification of the first path.
-const CANONICAL: &[u8] =
+const canonical: &[u8] =
     b"Domain s\nParty isA Role ;\nPaid isA Event ;\nendDomain\nContract S ( ) unit Day\nDeclarations\na : Party ;\nb : Party ;\npaid : Paid ;\nObligations\noPay : O ( a , b , true , happensBefore ( paid , 2024-03-11 ) ) ;\nendContract\n";
 
 #[test]
 fn words_and_files_are_answered(rt: HostRuntime) -> Result<(), Fail> {
     let big = vec![in rt.alloc(); b' '; 1_048_577]?;
+    let canonical = s_compiled().strip_suffix(ORDER).unwrap_or(b"");
     let limit = vec![in rt.alloc(); b' '; 1_048_576]?;
     let table: [(&[&[u8]], &[u8], &[u8], Status, &[u8]); 18] = [
-        (&[], SPEC, BIND, Status::Usage, USAGE),
-        (&[b"monitor", b"SPEC"], SPEC, BIND, Status::Usage, USAGE),
+        (&[], s(), s_bind(), Status::Usage, USAGE),
+        (&[b"monitor", b"SPEC"], s(), s_bind(), Status::Usage, USAGE),
         (
             &[b"compile", b"SPEC", b"BIND"],
-            SPEC,
-            BIND,
+            s(),
+            s_bind(),
             Status::Usage,
             USAGE,
         ),
         (
             &[b"monitor", b"NONE", b"BIND"],
-            SPEC,
-            BIND,
+            s(),
+            s_bind(),
             Status::ReadFault,
             b"",
         ),
         (
             &[b"monitor", b"SPEC", b"NONE"],
-            SPEC,
-            BIND,
+            s(),
+            s_bind(),
             Status::ReadFault,
             b"",
         ),
@@ -145,41 +145,41 @@ fn words_and_files_are_answered(rt: HostRuntime) -> Result<(), Fail> {
         (
             MONITOR,
             b"Domain s\nParty isA Role;\nPaid is An Event;\n",
-            BIND,
+            s_bind(),
             Status::Refused,
             b"refused spec 3:6 SyntaxFault is\n",
         ),
         (
             MONITOR,
             b"Domain s\n  @",
-            BIND,
+            s_bind(),
             Status::Refused,
             b"refused spec 2:3 LexFault\n",
         ),
         (
             MONITOR,
             b"Domain d endDomain Contract C() unit Day endContract",
-            BIND,
+            s_bind(),
             Status::Refused,
             b"refused spec NotYet\n",
         ),
         (
             MONITOR,
             b"Domain s // the first\nParty isAn Role; Paid isA Event; endDomain Contract S ( ) unit Day Declarations a: Party; b: Party; paid: Paid; Obligations oPay: O(a, b, (true), happensBefore(paid, 2024-03-11)); Powers endContract",
-            BIND,
+            s_bind(),
             Status::Done,
             b"",
         ),
         (
             MONITOR,
-            SPEC,
+            s(),
             b"start 2024-03-01;\nprice := 100;\n",
             Status::Refused,
             b"refused bind NotYet\n",
         ),
         (
             MONITOR,
-            SPEC,
+            s(),
             b"start 2024-03-01\n",
             Status::Refused,
             b"refused bind 2:1 SyntaxFault\n",
@@ -187,30 +187,30 @@ fn words_and_files_are_answered(rt: HostRuntime) -> Result<(), Fail> {
         (
             MONITOR,
             &big,
-            BIND,
+            s_bind(),
             Status::Refused,
             b"refused spec TooBig\n",
         ),
         (
             MONITOR,
             &limit,
-            BIND,
+            s_bind(),
             Status::Refused,
             b"refused spec 1:1048577 SyntaxFault\n",
         ),
         (
             MONITOR,
-            SPEC,
+            s(),
             &big,
             Status::Refused,
             b"refused bind TooBig\n",
         ),
-        (COMPILE, SPEC, BIND, Status::Done, CANONICAL),
-        (COMPILE, CANONICAL, BIND, Status::Done, CANONICAL),
+        (COMPILE, s(), s_bind(), Status::Done, canonical),
+        (COMPILE, canonical, s_bind(), Status::Done, canonical),
         (
             COMPILE,
             b"Domain s",
-            BIND,
+            s_bind(),
             Status::Refused,
             b"refused spec 1:9 SyntaxFault\n",
         ),
@@ -242,8 +242,8 @@ fn long_lines_are_refused(rt: HostRuntime) -> Result<(), Fail> {
     ] {
         let case = Case {
             words: MONITOR,
-            spec: SPEC,
-            bind: BIND,
+            spec: s(),
+            bind: s_bind(),
             input: &input,
             most: 100_000,
             failing_read_of_file: 0,
@@ -255,5 +255,28 @@ fn long_lines_are_refused(rt: HostRuntime) -> Result<(), Fail> {
         assert_eq!(rt; ran.out.bytes(), out);
         input.push(longer)?;
     }
+    Ok(())
+}
+
+#[test]
+fn a_log_of_many_lines_is_answered(rt: HostRuntime) -> Result<(), Fail> {
+    let mut input = Vec::new(rt.alloc());
+    for _line in 0..5_000 {
+        input.extend_from_slice(b"at 2024-03-10 happens paid\n")?;
+    }
+    input.extend_from_slice(b"report 2024-03-10\n")?;
+    let case = Case {
+        words: MONITOR,
+        spec: s(),
+        bind: s_bind(),
+        input: &input,
+        most: 100_000,
+        failing_read_of_file: 0,
+        failing_read: 0,
+        failing_write: 0,
+    };
+    let ran = outcome(rt.alloc(), &case)?;
+    assert_eq!(rt; ran.status, Status::Done);
+    assert_eq!(rt; ran.out.bytes(), KEPT);
     Ok(())
 }
