@@ -1,7 +1,7 @@
 -- The condition of an internal event depends only on the events that it looks at.
-use Rattle.std.proofs.Common.{◌≡◌, ℕ, ℤ, ◌+◌, Bool, true, false, not, ◌&&◌, ◌||◌, List, [], ◌∷◌, ◌++◌, map, Option, Some, None, slice_get, int_lt, int_le, refl, sym, ◌∙◌, ap, subst, inl, inr, if◌then◌else◌}
+use Rattle.std.proofs.Common.{◌≡◌, ℕ, ℤ, Bool, true, false, not, ◌&&◌, ◌||◌, List, [], ◌∷◌, ◌++◌, map, Option, Some, None, slice_get, int_lt, int_le, refl, sym, ◌∙◌, ap, subst, inl, inr, if◌then◌else◌}
 use Rattle.std.specs.Option.{option_map}
-use Rattle.std.specs.List.{list_any}
+use Rattle.std.specs.List.{list_any, list_all, flat_map}
 use Rattle.sy_base.specs.declared.time.TimeUnit.{TimeUnit}
 use Rattle.sy_core.specs.declared.kind.Kind.{Kind}
 use Rattle.sy_core.specs.declared.kind.Kind.TheVariants.{Exerted, Triggered, Activated, Resumed, Suspended, Fulfilled, Violated, Expired, Discharged, Terminated, Completed}
@@ -28,30 +28,30 @@ use Rattle.sy_core.specs.declared.position.Position.{Position}
 use Rattle.sy_core.specs.declared.deed.Deed.{Deed}
 use Rattle.sy_core.specs.declared.happening.What.{What}
 use Rattle.sy_core.specs.declared.table.Verdict.{Verdict}
-use Rattle.sy_core.specs.Rounds.{Among}
+use Rattle.sy_core.proofs.Members.{Among}
 use Rattle.sy_core.specs.Moments.{Moment, first_point, base_value, all_added, date_value, seen_ever}
 use Rattle.sy_core.specs.States.{same_state, kinds_of, state_by, last_state}
-use Rattle.sy_core.specs.Propositions.{opposite, lesser, greater, least, greatest, verdict_by, with_date, verdict_step, verdict_in, is_true, is_false, situation_holds}
-use Rattle.sy_core.specs.Mentions.{Event, events_at, joined, named_by_event, named_by_base, named_by_date, names_step, names_of, names_of_duty, has_holds}
-use Rattle.sy_core.specs.Conditions.{is_act, is_obligation, survives, is_awaited, is_remedy, is_settled, duty_is, was, live, exerted_from, next_state, remedied_from, all_settled_from, any_begun_from, by, contract_fires, position_fires, fires_of}
-use Rattle.sy_core.specs.Chronicle.{assuming, fires_now}
-use Rattle.sy_core.specs.Dependence.{exertions_from, remedy_events_from, awaited_events_from, exertions, contract_ends, contract_reads, position_reads, reads_of, reads}
+use Rattle.sy_core.specs.Propositions.{opposite, lesser, greater, least, greatest, verdict_by, with_date, verdict_step, verdict_at, is_true, is_false, situation_holds}
+use Rattle.sy_core.specs.Mentions.{InternalEvent, events_at, named_by_event, named_by_base, named_by_date, names_step, names_of, names_of_duty, has_holds}
+use Rattle.sy_core.specs.Conditions.{is_obligation, survives, is_settled, duty_is, powers_to, remedies_of, awaited, events_of_position, was, live, next_state, by, is_remedied, contract_fires, position_fires, fires_of, fires}
+use Rattle.sy_core.specs.Chronicle.{assuming}
+use Rattle.sy_core.specs.Dependence.{exertions, contract_ends, contract_reads, position_reads, reads_of, reads}
 
 -- two sets agree on the events of a list
-abbrev pub AgreeOn : (Event → Bool) → (Event → Bool) → List Event → Type 0
+abbrev pub AgreeOn : (InternalEvent → Bool) → (InternalEvent → Bool) → List InternalEvent → Type 0
 AgreeOn s t [] = Unit {0}
 AgreeOn s t (e ∷ es) = (s e ≡ t e) × AgreeOn s t es
 
-module _ (s t : Event → Bool) where
-  agree_left : (xs ys : List Event) → AgreeOn s t (xs ++ ys) → AgreeOn s t xs
+module _ (s t : InternalEvent → Bool) where
+  agree_left : (xs ys : List InternalEvent) → AgreeOn s t (xs ++ ys) → AgreeOn s t xs
   agree_left [] ys h = tt
   agree_left (x ∷ xs) ys h = (h.0, agree_left xs ys h.1)
 
-  agree_right : (xs ys : List Event) → AgreeOn s t (xs ++ ys) → AgreeOn s t ys
+  agree_right : (xs ys : List InternalEvent) → AgreeOn s t (xs ++ ys) → AgreeOn s t ys
   agree_right [] ys h = h
   agree_right (x ∷ xs) ys h = agree_right xs ys h.1
 
-  pub agree_from : (es : List Event) → ((d : Event) → Among es d → s d ≡ t d) → AgreeOn s t es
+  pub agree_from : (es : List InternalEvent) → ((d : InternalEvent) → Among es d → s d ≡ t d) → AgreeOn s t es
   agree_from [] h = tt
   agree_from (e ∷ es) h = (h e (inl refl), agree_from es (λ d m. h d (inr m)))
 
@@ -60,12 +60,12 @@ any_last : (test : Moment → Bool) (before : List Moment) (m n : Moment) → te
 any_last test [] m n e = ap (λ b. b || false) e
 any_last test (x ∷ before) m n e = ap (λ b. test x || b) (any_last test before m n e)
 
-module _ (point : ℤ) (whats : List What) (state : Target → StateOf) (before : List Moment) (s t : Event → Bool) where
+module _ (point : ℤ) (happenings : List What) (state : Target → StateOf) (before : List Moment) (s t : InternalEvent → Bool) where
   abbrev pub m : Moment
-  m = assuming point whats state s
+  m = assuming point happenings state s
 
   abbrev pub n : Moment
-  n = assuming point whats state t
+  n = assuming point happenings state t
 
   seen_same : (e : Ev) → AgreeOn s t (named_by_event e) → m.seen e ≡ n.seen e
   seen_same (Outer event guards) h = refl
@@ -87,30 +87,30 @@ module _ (point : ℤ) (whats : List What) (state : Target → StateOf) (before 
 
   module _ (unit : TimeUnit) where
     abbrev old : Prop → Verdict
-    old = verdict_in unit m (before ++ m ∷ [])
+    old = verdict_at unit m before
 
     abbrev new : Prop → Verdict
-    new = verdict_in unit n (before ++ n ∷ [])
+    new = verdict_at unit n before
 
     abbrev Same : Prop → Type 0
     Same p = AgreeOn s t (names_of p) → old p ≡ new p
 
-    all_same : (ps : List ((p : Prop) × Same p)) → AgreeOn s t (joined (map names_of (map (λ e. e.0) ps))) → least (map old (map (λ e. e.0) ps)) ≡ least (map new (map (λ e. e.0) ps))
+    all_same : (ps : List ((p : Prop) × Same p)) → AgreeOn s t (flat_map (λ part. part) (map names_of (map (λ e. e.0) ps))) → least (map old (map (λ e. e.0) ps)) ≡ least (map new (map (λ e. e.0) ps))
     all_same [] h = refl
     all_same (e ∷ ps) h =
-        let a = e.1 (agree_left s t (names_of e.0) (joined (map names_of (map (λ e. e.0) ps))) h) in
-        let b = all_same ps (agree_right s t (names_of e.0) (joined (map names_of (map (λ e. e.0) ps))) h) in
+        let a = e.1 (agree_left s t (names_of e.0) (flat_map (λ part. part) (map names_of (map (λ e. e.0) ps))) h) in
+        let b = all_same ps (agree_right s t (names_of e.0) (flat_map (λ part. part) (map names_of (map (λ e. e.0) ps))) h) in
         λ j. lesser (a j) (b j)
 
-    any_same : (ps : List ((p : Prop) × Same p)) → AgreeOn s t (joined (map names_of (map (λ e. e.0) ps))) → greatest (map old (map (λ e. e.0) ps)) ≡ greatest (map new (map (λ e. e.0) ps))
+    any_same : (ps : List ((p : Prop) × Same p)) → AgreeOn s t (flat_map (λ part. part) (map names_of (map (λ e. e.0) ps))) → greatest (map old (map (λ e. e.0) ps)) ≡ greatest (map new (map (λ e. e.0) ps))
     any_same [] h = refl
     any_same (e ∷ ps) h =
-        let a = e.1 (agree_left s t (names_of e.0) (joined (map names_of (map (λ e. e.0) ps))) h) in
-        let b = any_same ps (agree_right s t (names_of e.0) (joined (map names_of (map (λ e. e.0) ps))) h) in
+        let a = e.1 (agree_left s t (names_of e.0) (flat_map (λ part. part) (map names_of (map (λ e. e.0) ps))) h) in
+        let b = any_same ps (agree_right s t (names_of e.0) (flat_map (λ part. part) (map names_of (map (λ e. e.0) ps))) h) in
         λ j. greater (a j) (b j)
 
     -- one layer, with the fact of each part beside it
-    layer_same : (y : Prop-F ((p : Prop) × Same p)) → AgreeOn s t (names_step (map-Prop Prop (List Event) names_of (map-Prop ((p : Prop) × Same p) Prop (λ e. e.0) y))) → verdict_step unit m (before ++ m ∷ []) (map-Prop Prop Verdict old (map-Prop ((p : Prop) × Same p) Prop (λ e. e.0) y)) ≡ verdict_step unit n (before ++ n ∷ []) (map-Prop Prop Verdict new (map-Prop ((p : Prop) × Same p) Prop (λ e. e.0) y))
+    layer_same : (y : Prop-F ((p : Prop) × Same p)) → AgreeOn s t (names_step (map-Prop Prop (List InternalEvent) names_of (map-Prop ((p : Prop) × Same p) Prop (λ e. e.0) y))) → verdict_step unit m before (map-Prop Prop Verdict old (map-Prop ((p : Prop) × Same p) Prop (λ e. e.0) y)) ≡ verdict_step unit n before (map-Prop Prop Verdict new (map-Prop ((p : Prop) × Same p) Prop (λ e. e.0) y))
     layer_same (P.Const b) h = refl
     layer_same (P.Not e) h = ap opposite (e.1 h)
     layer_same (P.All ps) h = all_same ps h
@@ -141,17 +141,9 @@ module _ (point : ℤ) (whats : List What) (state : Target → StateOf) (before 
     verdict_same = ind-Prop Same (λ x y is.
         let parts = λ (z : Prop-F ((p : Prop) × Same p)). map-Prop ((p : Prop) × Same p) Prop (λ e. e.0) z in
         subst (λ (z : Prop-F Prop). Same (roll-Prop z)) is (λ h.
-        fold-roll-Prop Verdict (verdict_step unit m (before ++ m ∷ [])) (parts y)
-        ∙ (layer_same y (subst (AgreeOn s t) (fold-roll-Prop (List Event) names_step (parts y)) h)
-        ∙ sym (fold-roll-Prop Verdict (verdict_step unit n (before ++ n ∷ [])) (parts y)))))
-
-  exerted_same : (i : ℕ) (verb : Verb) (target : Target) (ps : List Position) → AgreeOn s t (exertions_from i verb target ps) → exerted_from m i verb target ps ≡ exerted_from n i verb target ps
-  exerted_same i verb target [] h = refl
-  exerted_same i verb target (p ∷ ps) h = at (is_act verb target p.goal) (exerted_same (i + 1) verb target ps) h
-    where
-      at : (b : Bool) → (AgreeOn s t (exertions_from (i + 1) verb target ps) → exerted_from m (i + 1) verb target ps ≡ exerted_from n (i + 1) verb target ps) → AgreeOn s t (if b then (Exerted, T.Position i) ∷ exertions_from (i + 1) verb target ps else exertions_from (i + 1) verb target ps) → ((b && s (Exerted, T.Position i)) || exerted_from m (i + 1) verb target ps) ≡ ((b && t (Exerted, T.Position i)) || exerted_from n (i + 1) verb target ps)
-      at true later h = λ j. h.0 j || later h.1 j
-      at false later h = later h
+        fold-roll-Prop Verdict (verdict_step unit m before) (parts y)
+        ∙ (layer_same y (subst (AgreeOn s t) (fold-roll-Prop (List InternalEvent) names_step (parts y)) h)
+        ∙ sym (fold-roll-Prop Verdict (verdict_step unit n before) (parts y)))))
 
   -- the last of some kinds, where the sets agree on the events of these
   last_same : (form : Form) (kinds : List Kind) (x : Target) (first : StateOf) → AgreeOn s t (events_at kinds x) → last_state form kinds (λ kind. s (kind, x)) first ≡ last_state form kinds (λ kind. t (kind, x)) first
@@ -160,58 +152,47 @@ module _ (point : ℤ) (whats : List What) (state : Target → StateOf) (before 
       last_same form later x (if s (kind, x) then state_by form kind else first) h.1
       ∙ ap (λ b. last_state form later (λ k. t (k, x)) (if b then state_by form kind else first)) h.0
 
-  next_same : (i : ℕ) (p : Position) → AgreeOn s t (events_at (kinds_of p.form) (T.Position i)) → next_state m i p ≡ next_state n i p
-  next_same i p h = last_same p.form (kinds_of p.form) (T.Position i) (state (T.Position i)) h
+  next_same : (n' : ℕ × Position) → AgreeOn s t (events_of_position n') → next_state m n'.0 n'.1 ≡ next_state n n'.0 n'.1
+  next_same n' h = last_same n'.1.form (kinds_of n'.1.form) (T.Position n'.0) (state (T.Position n'.0)) h
 
-  remedied_same : (broken : Target) (i : ℕ) (ps : List Position) → AgreeOn s t (remedy_events_from broken i ps) → remedied_from m broken i ps ≡ remedied_from n broken i ps
-  remedied_same broken i [] h = refl
-  remedied_same broken i (p ∷ ps) h =
-      let own = (if is_remedy broken p then events_at (kinds_of p.form) (T.Position i) else []) in
-      let here = at (is_remedy broken p) (agree_left s t own (remedy_events_from broken (i + 1) ps) h) in
-      let later = remedied_same broken (i + 1) ps (agree_right s t own (remedy_events_from broken (i + 1) ps) h) in
-      λ j. here j || later j
-    where
-      at : (b : Bool) → AgreeOn s t (if b then events_at (kinds_of p.form) (T.Position i) else []) → (b && same_state (next_state m i p) S.Fulfillment) ≡ (b && same_state (next_state n i p) S.Fulfillment)
-      at true h = ap (λ after. same_state after S.Fulfillment) (next_same i p h)
-      at false h = refl
+  exerted_same : (ns : List (ℕ × Position)) → AgreeOn s t (map (λ n. (Exerted, T.Position n.0)) ns) → list_any (λ n. s (Exerted, T.Position n.0)) ns ≡ list_any (λ n. t (Exerted, T.Position n.0)) ns
+  exerted_same [] h = refl
+  exerted_same (x ∷ ns) h = let later = exerted_same ns h.1 in λ j. h.0 j || later j
 
-  module _ (all : List Position) where
-    -- what awaited_events_from has of one position
-    abbrev awaited_of : Bool → ℕ → Position → List Event
-    awaited_of b i p = if b then events_at (kinds_of p.form) (T.Position i) ++ remedy_events_from (T.Position i) 0 all else []
-
-    all_settled_same : (i : ℕ) (ps : List Position) → AgreeOn s t (awaited_events_from all i ps) → all_settled_from m all i ps ≡ all_settled_from n all i ps
-    all_settled_same i [] h = refl
-    all_settled_same i (p ∷ ps) h =
-        let own = awaited_of (is_awaited p.form) i p in
-        let here = at (is_awaited p.form) (agree_left s t own (awaited_events_from all (i + 1) ps) h) in
-        let later = all_settled_same (i + 1) ps (agree_right s t own (awaited_events_from all (i + 1) ps) h) in
-        λ j. here j && later j
-      where
-        at : (b : Bool) → AgreeOn s t (awaited_of b i p) → (not b || is_settled (next_state m i p) (remedied_from m (T.Position i) 0 all)) ≡ (not b || is_settled (next_state n i p) (remedied_from n (T.Position i) 0 all))
-        at true h =
-            let after = next_same i p (agree_left s t (events_at (kinds_of p.form) (T.Position i)) (remedy_events_from (T.Position i) 0 all) h) in
-            let remedied = remedied_same (T.Position i) 0 all (agree_right s t (events_at (kinds_of p.form) (T.Position i)) (remedy_events_from (T.Position i) 0 all) h) in
-            λ j. is_settled (after j) (remedied j)
-        at false h = refl
-
-    any_begun_same : (i : ℕ) (ps : List Position) → AgreeOn s t (awaited_events_from all i ps) → any_begun_from m i ps ≡ any_begun_from n i ps
-    any_begun_same i [] h = refl
-    any_begun_same i (p ∷ ps) h =
-        let own = awaited_of (is_awaited p.form) i p in
-        let here = at (is_awaited p.form) (agree_left s t own (awaited_events_from all (i + 1) ps) h) in
-        let later = any_begun_same (i + 1) ps (agree_right s t own (awaited_events_from all (i + 1) ps) h) in
-        λ j. here j || later j
-      where
-        at : (b : Bool) → AgreeOn s t (awaited_of b i p) → (b && not (same_state (next_state m i p) S.Null)) ≡ (b && not (same_state (next_state n i p) S.Null))
-        at true h =
-            let after = next_same i p (agree_left s t (events_at (kinds_of p.form) (T.Position i)) (remedy_events_from (T.Position i) 0 all) h) in
-            λ j. not (same_state (after j) S.Null)
-        at false h = refl
+  -- whether a state after the point passes a test, at some position
+  some_same : (test : StateOf → Bool) (ns : List (ℕ × Position)) → AgreeOn s t (flat_map events_of_position ns) → list_any (λ k. test (next_state m k.0 k.1)) ns ≡ list_any (λ k. test (next_state n k.0 k.1)) ns
+  some_same test [] h = refl
+  some_same test (x ∷ ns) h =
+      let here = next_same x (agree_left s t (events_of_position x) (flat_map events_of_position ns) h) in
+      let later = some_same test ns (agree_right s t (events_of_position x) (flat_map events_of_position ns) h) in
+      λ j. test (here j) || later j
 
   module _ (deed : Deed) where
     by_same : (verb : Verb) (target : Target) → AgreeOn s t (exertions deed verb target) → by deed m verb target ≡ by deed n verb target
-    by_same verb target h = exerted_same 0 verb target deed.positions h
+    by_same verb target h = exerted_same (powers_to deed verb target) h
+
+    abbrev remedy_reads : ℕ × Position → List InternalEvent
+    remedy_reads k = flat_map events_of_position (remedies_of deed (T.Position k.0))
+
+    abbrev all_reads : List (ℕ × Position) → List InternalEvent
+    all_reads ns = flat_map (λ k. events_of_position k ++ remedy_reads k) ns
+
+    all_settled_same : (ns : List (ℕ × Position)) → AgreeOn s t (all_reads ns) → list_all (λ k. is_settled (next_state m k.0 k.1) (is_remedied deed m (T.Position k.0))) ns ≡ list_all (λ k. is_settled (next_state n k.0 k.1) (is_remedied deed n (T.Position k.0))) ns
+    all_settled_same [] h = refl
+    all_settled_same (x ∷ ns) h =
+        let own = agree_left s t (events_of_position x ++ remedy_reads x) (all_reads ns) h in
+        let after = next_same x (agree_left s t (events_of_position x) (remedy_reads x) own) in
+        let remedied = some_same (λ after. same_state after S.Fulfillment) (remedies_of deed (T.Position x.0)) (agree_right s t (events_of_position x) (remedy_reads x) own) in
+        let later = all_settled_same ns (agree_right s t (events_of_position x ++ remedy_reads x) (all_reads ns) h) in
+        λ j. is_settled (after j) (remedied j) && later j
+
+    any_begun_same : (ns : List (ℕ × Position)) → AgreeOn s t (all_reads ns) → list_any (λ k. not (same_state (next_state m k.0 k.1) S.Null)) ns ≡ list_any (λ k. not (same_state (next_state n k.0 k.1) S.Null)) ns
+    any_begun_same [] h = refl
+    any_begun_same (x ∷ ns) h =
+        let own = agree_left s t (events_of_position x ++ remedy_reads x) (all_reads ns) h in
+        let after = next_same x (agree_left s t (events_of_position x) (remedy_reads x) own) in
+        let later = any_begun_same ns (agree_right s t (events_of_position x ++ remedy_reads x) (all_reads ns) h) in
+        λ j. not (same_state (after j) S.Null) || later j
 
     ends_same : (form : Form) → AgreeOn s t (contract_ends deed form) → (not (survives form) && by deed m Verbs.Terminates T.Contract) ≡ (not (survives form) && by deed n Verbs.Terminates T.Contract)
     ends_same form h = at (survives form) h
@@ -220,7 +201,7 @@ module _ (point : ℤ) (whats : List What) (state : Target → StateOf) (before 
         at true h = refl
         at false h = by_same Verbs.Terminates T.Contract h
 
-    duty_same : (test : Verdict → Bool) (goal : Goal) → AgreeOn s t (names_of_duty goal) → duty_is test deed.unit m (before ++ m ∷ []) goal ≡ duty_is test deed.unit n (before ++ n ∷ []) goal
+    duty_same : (test : Verdict → Bool) (goal : Goal) → AgreeOn s t (names_of_duty goal) → duty_is test deed.unit m before goal ≡ duty_is test deed.unit n before goal
     duty_same test (G.Duty consequent) h = ap test (verdict_same deed.unit consequent h)
     duty_same test (G.Act act) h = refl
 
@@ -230,13 +211,13 @@ module _ (point : ℤ) (whats : List What) (state : Target → StateOf) (before 
     contract_same Suspended h = let b = by_same Verbs.Suspends T.Contract h in λ j. was m T.Contract S.InEffect && b j
     contract_same Terminated h = by_same Verbs.Terminates T.Contract h
     contract_same Completed h =
-        let a = all_settled_same deed.positions 0 deed.positions h.1.1 in
-        let b = any_begun_same deed.positions 0 deed.positions h.1.1 in
+        let a = all_settled_same (awaited deed) h.1.1 in
+        let b = any_begun_same (awaited deed) h.1.1 in
         λ j. was m T.Contract S.InEffect && not (h.0 j) && not (h.1.0 j) && (a j && b j)
     contract_same _ h = refl
 
     -- one row of a position each
-    position_same : (i : ℕ) (p : Position) (kind : Kind) → AgreeOn s t (position_reads deed i p kind) → position_fires deed m (before ++ m ∷ []) i p kind ≡ position_fires deed n (before ++ n ∷ []) i p kind
+    position_same : (i : ℕ) (p : Position) (kind : Kind) → AgreeOn s t (position_reads deed i p kind) → position_fires deed m before i p kind ≡ position_fires deed n before i p kind
     position_same i p Exerted h = refl
     position_same i p Triggered h =
         let v = verdict_same deed.unit p.trigger (agree_left s t (names_of p.trigger) (exertions deed Verbs.Triggers (T.Position i)) h) in
@@ -267,11 +248,11 @@ module _ (point : ℤ) (whats : List What) (state : Target → StateOf) (before 
         λ j. (was m (T.Position i) S.Create || was m (T.Position i) S.InEffect || was m (T.Position i) S.Suspension || h.0 j) && (own j || whole j) && not (h.1.0 j)
     position_same i p Completed h = refl
 
-    same_of : (i : ℕ) (o : Option Position) (kind : Kind) → AgreeOn s t (reads_of deed i o kind) → fires_of deed m (before ++ m ∷ []) i o kind ≡ fires_of deed n (before ++ n ∷ []) i o kind
+    same_of : (i : ℕ) (o : Option Position) (kind : Kind) → AgreeOn s t (reads_of deed i o kind) → fires_of deed m before i o kind ≡ fires_of deed n before i o kind
     same_of i None kind h = refl
     same_of i (Some p) kind h = position_same i p kind h
 
     -- two sets that agree on what a condition looks at give the same
-    pub condition_same : (kind : Kind) (x : Target) → AgreeOn s t (reads deed kind x) → fires_now deed m before kind x ≡ fires_now deed n before kind x
+    pub condition_same : (kind : Kind) (x : Target) → AgreeOn s t (reads deed kind x) → fires deed m before kind x ≡ fires deed n before kind x
     condition_same kind T.Contract h = contract_same kind h
     condition_same kind (T.Position i) h = same_of i (slice_get deed.positions i) kind h

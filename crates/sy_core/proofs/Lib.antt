@@ -1,4 +1,5 @@
 pub mod Equal
+pub mod Members
 pub mod OrderLaw
 pub mod DependenceLaw
 pub mod RoundsLaw

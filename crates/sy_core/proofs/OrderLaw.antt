@@ -2,7 +2,13 @@
 -- and no other set is so.
 use Rattle.std.proofs.Common.{◌≡◌, ℕ, zero, suc, ◌+◌, ◌<◌, ◌≤◌, Bool, false, List, [], ◌∷◌, ◌++◌, ◌⊎◌, inl, inr, length, refl, sym, ◌∙◌, ap, subst, zero-add, arith, append_assoc, length-append}
 use Rattle.std.proofs.Math.Path.{fun_ext}
-use Rattle.sy_core.specs.Rounds.{rounds, IsSettled, Among, IsInOrder}
+use Rattle.sy_core.specs.Rounds.{rounds, IsSettled}
+use Rattle.sy_core.proofs.Members.{Among}
+
+-- each event of the list looks only at events before it, and at events that aren't in the list; those never happen
+pub record IsInOrder {E : Type 0} (condition : (E → Bool) → E → Bool) (order : List E) : Type 0 where
+  pub depends : (earlier later : List E) (e : E) → order ≡ earlier ++ e ∷ later → (s t : E → Bool) → ((d : E) → Among earlier d ⊎ (Among order d → ⊥) → s d ≡ t d) → condition s e ≡ condition t e
+  pub others : (e : E) → (Among order e → ⊥) → (s : E → Bool) → condition s e ≡ false
 
 -- what is in two lists together is in one of them
 among_append : {E : Type 0} (xs ys : List E) (d : E) → Among (xs ++ ys) d → Among xs d ⊎ Among ys d

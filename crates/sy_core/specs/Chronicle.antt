@@ -2,10 +2,9 @@
 -- At start every position is Null and the contract is in effect. The internal events of a point are what the conditions give in rounds: each
 -- is applied to all events at once, beginning with none, as many times as the deed has internal events. The states after a point are those
 -- that its internal events give, and else they stay.
-use Rattle.std.specs.Prelude.{ℕ, zero, suc, ℤ, pos, ◌+ℤ◌, Bool, false, ◌==◌, List, [], ◌∷◌, ◌++◌, Option, Some, None, slice_get, map, filter}
+use Rattle.std.specs.Prelude.{ℕ, zero, suc, ℤ, pos, ◌+ℤ◌, Bool, false, ◌==◌, List, [], ◌∷◌, Option, Some, None, slice_get, map, filter}
 use Rattle.std.specs.Ordering.{int_eq}
 use Rattle.std.specs.List.{list_any}
-use Rattle.sy_core.specs.declared.kind.Kind.{Kind}
 use Rattle.sy_core.specs.declared.kind.Target.{Target}
 use Rattle.sy_core.specs.declared.kind.Target.TheVariants as T
 use Rattle.sy_core.specs.declared.state.StateOf.{StateOf}
@@ -18,9 +17,10 @@ use Rattle.sy_core.specs.declared.happening.What.{What}
 use Rattle.sy_core.specs.declared.happening.What.TheVariants.{Event, Exert}
 use Rattle.sy_core.specs.declared.happening.Happening.{Happening}
 use Rattle.sy_core.specs.Matching.{matches}
-use Rattle.sy_core.specs.Moments.{Moment}
-use Rattle.sy_core.specs.States.{state_after, contract_after}
-use Rattle.sy_core.specs.Conditions.{fires, count_events}
+use Rattle.sy_core.specs.Moments.{Moment, up_to}
+use Rattle.sy_core.specs.States.{contract_after}
+use Rattle.sy_core.specs.Mentions.{InternalEvent}
+use Rattle.sy_core.specs.Conditions.{next_state, fires, count_events}
 use Rattle.sy_core.specs.Rounds.{rounds}
 
 -- what the narrative has at a point
@@ -33,30 +33,26 @@ exerts i (Exert power) = i == power
 exerts i (Event event values) = false
 
 -- an event stands among what the narrative has at a point, or in the set of internal events
-abbrev pub stands : List What → (Kind × Target → Bool) → Ev → Bool
-stands whats set (Outer event guards) = list_any (matches (Outer event guards)) whats
-stands whats set (Inner kind target) = set (kind, target)
+abbrev pub stands : List What → (InternalEvent → Bool) → Ev → Bool
+stands happenings set (Outer event guards) = list_any (matches (Outer event guards)) happenings
+stands happenings set (Inner kind target) = set (kind, target)
 
 -- a point, with a set of internal events assumed there
-abbrev pub assuming : ℤ → List What → (Target → StateOf) → (Kind × Target → Bool) → Moment
-assuming point whats state set = record {
+abbrev pub assuming : ℤ → List What → (Target → StateOf) → (InternalEvent → Bool) → Moment
+assuming point happenings state set = record {
   point = point;
-  asked = λ i. list_any (exerts i) whats;
-  seen = stands whats set;
+  asked = λ i. list_any (exerts i) happenings;
+  seen = stands happenings set;
   state = state;
 }
 
--- the condition of an internal event at a moment, after those before it
-abbrev pub fires_now : Deed → Moment → List Moment → Kind → Target → Bool
-fires_now deed now before kind target = fires deed now (before ++ now ∷ []) kind target
-
 -- the conditions of all events at once: from the set that is assumed to the set of those that are true of it
-abbrev pub conditions : Deed → ℤ → List What → (Target → StateOf) → List Moment → (Kind × Target → Bool) → Kind × Target → Bool
-conditions deed point whats state before set event = fires_now deed (assuming point whats state set) before event.0 event.1
+abbrev pub conditions : Deed → ℤ → List What → (Target → StateOf) → List Moment → (InternalEvent → Bool) → InternalEvent → Bool
+conditions deed point happenings state before set event = fires deed (assuming point happenings state set) before event.0 event.1
 
 -- the internal events of a point: as many rounds from none as the deed has internal events
-abbrev pub internal_events : Deed → ℤ → List What → (Target → StateOf) → List Moment → Kind × Target → Bool
-internal_events deed point whats state before = rounds (conditions deed point whats state before) (count_events deed.positions)
+abbrev pub internal_events : Deed → ℤ → List What → (Target → StateOf) → List Moment → InternalEvent → Bool
+internal_events deed point happenings state before = rounds (conditions deed point happenings state before) (count_events deed.positions)
 
 -- the states at start
 abbrev pub first_state : Target → StateOf
@@ -66,7 +62,7 @@ first_state (T.Position i) = S.Null
 -- the state of position number i after a moment; of one that isn't there it stays
 abbrev pub position_after : Moment → ℕ → Option Position → StateOf
 position_after m i None = m.state (T.Position i)
-position_after m i (Some p) = state_after p.form (λ kind. m.seen (Inner kind (T.Position i))) (m.state (T.Position i))
+position_after m i (Some p) = next_state m i p
 
 -- inertia: the states after a moment
 abbrev pub states_next : Deed → Moment → Target → StateOf
@@ -84,12 +80,12 @@ states_after deed moments = states_from deed first_state moments
 
 -- the moment of a point, after those from start on before it
 abbrev pub next_moment : Deed → ℤ → List What → List Moment → Moment
-next_moment deed point whats before =
-    assuming point whats (states_after deed before) (internal_events deed point whats (states_after deed before) before)
+next_moment deed point happenings before =
+    assuming point happenings (states_after deed before) (internal_events deed point happenings (states_after deed before) before)
 
 -- some moments, and the one of the next point
 abbrev pub and_next : Deed → ℤ → List What → List Moment → List Moment
-and_next deed point whats before = before ++ next_moment deed point whats before ∷ []
+and_next deed point happenings before = up_to (next_moment deed point happenings before) before
 
 -- the moments of the first n points, from start on
 abbrev pub chronicle : Deed → List Happening → ℕ → List Moment

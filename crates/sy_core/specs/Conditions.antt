@@ -1,7 +1,7 @@
 -- The condition of each internal event at a point: the event happens there exactly where it is true.
 -- It reads the states at the start of the point, the happenings up to the point, the internal events before it and those assumed at it.
-use Rattle.std.specs.Prelude.{ℕ, ◌+◌, Bool, true, false, not, ◌&&◌, ◌||◌, ◌==◌, List, [], ◌∷◌, ◌++◌, Option, Some, None, slice_get, length}
-use Rattle.std.specs.List.{list_any}
+use Rattle.std.specs.Prelude.{ℕ, ◌+◌, Bool, true, false, not, ◌&&◌, ◌||◌, ◌==◌, List, [], ◌∷◌, ◌++◌, Option, Some, None, slice_get, length, filter, flat_map}
+use Rattle.std.specs.List.{list_any, list_all, enumerate_from}
 use Rattle.sy_base.specs.declared.time.TimeUnit.{TimeUnit}
 use Rattle.sy_core.specs.declared.kind.Kind.{Kind}
 use Rattle.sy_core.specs.declared.kind.Kind.TheVariants.{Exerted, Triggered, Activated, Resumed, Suspended, Fulfilled, Violated, Expired, Discharged, Terminated, Completed}
@@ -21,8 +21,8 @@ use Rattle.sy_core.specs.declared.position.Position.{Position}
 use Rattle.sy_core.specs.declared.deed.Deed.{Deed}
 use Rattle.sy_core.specs.Moments.{Moment}
 use Rattle.sy_core.specs.States.{same_state, kinds_of, contract_kinds, state_after}
-use Rattle.sy_core.specs.Propositions.{verdict_in, is_true, is_false}
-use Rattle.sy_core.specs.Mentions.{Event, events_at, same_target, names_of, has_holds, is_violation_of}
+use Rattle.sy_core.specs.Propositions.{verdict_at, is_true, is_false}
+use Rattle.sy_core.specs.Mentions.{InternalEvent, events_at, same_target, names_of, has_holds, is_violation_of}
 
 -- verbs by number, to compare them
 abbrev pub verb_number : Verb → ℕ
@@ -64,9 +64,9 @@ is_awaited _ = false
 
 -- a remedy of an obligation is an obligation whose trigger names its violation, anywhere in it
 abbrev pub is_remedy : Target → Position → Bool
-is_remedy broken p = is_obligation p.form && list_any (is_violation_of broken) (names_of p.trigger)
+is_remedy violated p = is_obligation p.form && list_any (is_violation_of violated) (names_of p.trigger)
 
--- an obligation in this state is settled: not begun, kept, discharged, or broken and remedied
+-- an obligation in this state is settled: not begun, fulfilled, discharged, or violated and remedied
 abbrev pub is_settled : StateOf → Bool → Bool
 is_settled S.Null remedied = true
 is_settled S.Fulfillment remedied = true
@@ -76,8 +76,25 @@ is_settled _ remedied = false
 
 -- the verdict of a position's consequent passes a test; an act has none
 abbrev pub duty_is : (Verdict → Bool) → TimeUnit → Moment → List Moment → Goal → Bool
-duty_is test unit now moments (G.Duty consequent) = test (verdict_in unit now moments consequent)
-duty_is test unit now moments (G.Act act) = false
+duty_is test unit now before (G.Duty consequent) = test (verdict_at unit now before consequent)
+duty_is test unit now before (G.Act act) = false
+
+module _ (deed : Deed) where
+  -- the positions, each behind its number
+  abbrev pub numbered : List (ℕ × Position)
+  numbered = enumerate_from 0 deed.positions
+
+  -- the powers that do this to that target
+  abbrev pub powers_to : Verb → Target → List (ℕ × Position)
+  powers_to verb target = filter (λ n. is_act verb target n.1.goal) numbered
+
+  -- the remedies of an obligation
+  abbrev pub remedies_of : Target → List (ℕ × Position)
+  remedies_of violated = filter (λ n. is_remedy violated n.1) numbered
+
+  -- the obligations that the contract's completion waits for
+  abbrev pub awaited : List (ℕ × Position)
+  awaited = filter (λ n. is_awaited n.1.form) numbered
 
 -- by the moment now alone
 module _ (now : Moment) where
@@ -88,12 +105,6 @@ module _ (now : Moment) where
   -- the target was in a state at the start of this point
   abbrev pub was : Target → StateOf → Bool
   was target state = same_state (now.state target) state
-
-  -- some power from number i on, whose act does this to that target, is exerted
-  abbrev pub exerted_from : ℕ → Verb → Target → List Position → Bool
-  exerted_from i verb target [] = false
-  exerted_from i verb target (p ∷ ps) =
-      (is_act verb target p.goal && happened Exerted (T.Position i)) || exerted_from (i + 1) verb target ps
 
   -- the contract is in effect, or the form doesn't heed it
   abbrev pub live : Form → Bool
@@ -108,42 +119,37 @@ module _ (now : Moment) where
   in_force x = was x S.InEffect || happened Activated x || happened Resumed x
 
   -- the position was created and waits for its antecedent, or is created here
-  abbrev pub awaits : Target → Bool
-  awaits x = was x S.Create || happened Triggered x
+  abbrev pub is_created : Target → Bool
+  is_created x = was x S.Create || happened Triggered x
 
   -- a duty is in force, and nothing here suspends or ends it
-  abbrev pub stays_due : Target → Form → Bool
-  stays_due x form = live form && in_force x && not (happened Suspended x) && not (happened Discharged x) && not (happened Terminated x)
+  abbrev pub remains_in_force : Target → Form → Bool
+  remains_in_force x form = live form && in_force x && not (happened Suspended x) && not (happened Discharged x) && not (happened Terminated x)
 
   -- the state of position number i after this point
   abbrev pub next_state : ℕ → Position → StateOf
   next_state i p = state_after p.form (λ kind. happened kind (T.Position i)) (now.state (T.Position i))
 
-  -- some remedy from number i on is kept after this point
-  abbrev pub remedied_from : Target → ℕ → List Position → Bool
-  remedied_from broken i [] = false
-  remedied_from broken i (p ∷ ps) =
-      (is_remedy broken p && same_state (next_state i p) S.Fulfillment) || remedied_from broken (i + 1) ps
-
-  -- each awaited obligation from number i on is settled after this point; all has every position
-  abbrev pub all_settled_from : List Position → ℕ → List Position → Bool
-  all_settled_from all i [] = true
-  all_settled_from all i (p ∷ ps) =
-      (not (is_awaited p.form) || is_settled (next_state i p) (remedied_from (T.Position i) 0 all)) && all_settled_from all (i + 1) ps
-
-  -- some awaited obligation from number i on has begun after this point
-  abbrev pub any_begun_from : ℕ → List Position → Bool
-  any_begun_from i [] = false
-  any_begun_from i (p ∷ ps) = (is_awaited p.form && not (same_state (next_state i p) S.Null)) || any_begun_from (i + 1) ps
-
 module _ (deed : Deed) (now : Moment) where
   -- some power that does this to that target is exerted at this point
   abbrev pub by : Verb → Target → Bool
-  by verb target = exerted_from now 0 verb target deed.positions
+  by verb target = list_any (λ n. happened now Exerted (T.Position n.0)) (powers_to deed verb target)
 
-  -- every awaited obligation is settled after this point, and some awaited obligation has begun
+  -- some remedy of the obligation is fulfilled after this point
+  abbrev pub is_remedied : Target → Bool
+  is_remedied violated = list_any (λ n. same_state (next_state now n.0 n.1) S.Fulfillment) (remedies_of deed violated)
+
+  -- every awaited obligation is settled after this point
+  abbrev pub all_settled : Bool
+  all_settled = list_all (λ n. is_settled (next_state now n.0 n.1) (is_remedied (T.Position n.0))) (awaited deed)
+
+  -- some awaited obligation has begun after this point
+  abbrev pub any_begun : Bool
+  any_begun = list_any (λ n. not (same_state (next_state now n.0 n.1) S.Null)) (awaited deed)
+
+  -- the contract comes to its good end after this point
   abbrev pub is_complete : Bool
-  is_complete = all_settled_from now deed.positions 0 deed.positions && any_begun_from now 0 deed.positions
+  is_complete = all_settled && any_begun
 
   -- the contract's events, one equation a row; it has no others
   abbrev pub contract_fires : Kind → Bool
@@ -154,27 +160,27 @@ module _ (deed : Deed) (now : Moment) where
       was now T.Contract S.InEffect && not (happened now Suspended T.Contract) && not (happened now Terminated T.Contract) && is_complete
   contract_fires _ = false
 
-  -- the events of position number i, one equation a row; moments are all those up to now
-  module _ (moments : List Moment) (i : ℕ) (p : Position) where
+  -- the events of position number i, one equation a row; before are the moments before now
+  module _ (before : List Moment) (i : ℕ) (p : Position) where
     abbrev pub position_fires : Kind → Bool
     position_fires Exerted =
         is_power p.form && now.asked i && was now (T.Position i) S.InEffect
         && (was now T.Contract S.InEffect || (was now T.Contract S.Suspension && acts_on_contract p.goal))
     position_fires Triggered =
         live now p.form && was now (T.Position i) S.Null
-        && (is_true (verdict_in deed.unit now moments p.trigger) || by Verbs.Triggers (T.Position i))
+        && (is_true (verdict_at deed.unit now before p.trigger) || by Verbs.Triggers (T.Position i))
     position_fires Activated =
-        live now p.form && awaits now (T.Position i) && is_true (verdict_in deed.unit now moments p.antecedent)
+        live now p.form && is_created now (T.Position i) && is_true (verdict_at deed.unit now before p.antecedent)
     position_fires Resumed = was now (T.Position i) S.Suspension && by Verbs.Resumes (T.Position i)
     position_fires Suspended =
         in_force now (T.Position i) && by Verbs.Suspends (T.Position i) && not (happened now Exerted (T.Position i))
     position_fires Fulfilled =
-        is_obligation p.form && stays_due now (T.Position i) p.form && duty_is is_true deed.unit now moments p.goal
+        is_obligation p.form && remains_in_force now (T.Position i) p.form && duty_is is_true deed.unit now before p.goal
     position_fires Violated =
-        is_obligation p.form && stays_due now (T.Position i) p.form && duty_is is_false deed.unit now moments p.goal
+        is_obligation p.form && remains_in_force now (T.Position i) p.form && duty_is is_false deed.unit now before p.goal
     position_fires Expired =
-        live now p.form && awaits now (T.Position i)
-        && not (has_holds p.antecedent) && is_false (verdict_in deed.unit now moments p.antecedent)
+        live now p.form && is_created now (T.Position i)
+        && not (has_holds p.antecedent) && is_false (verdict_at deed.unit now before p.antecedent)
     position_fires Discharged = is_obligation p.form && alive now (T.Position i) && by Verbs.Discharges (T.Position i)
     position_fires Terminated =
         alive now (T.Position i)
@@ -184,24 +190,23 @@ module _ (deed : Deed) (now : Moment) where
 
 -- nothing happens to a position that isn't there
 abbrev pub fires_of : Deed → Moment → List Moment → ℕ → Option Position → Kind → Bool
-fires_of deed now moments i None kind = false
-fires_of deed now moments i (Some p) kind = position_fires deed now moments i p kind
+fires_of deed now before i None kind = false
+fires_of deed now before i (Some p) kind = position_fires deed now before i p kind
 
--- the condition of an internal event now, where the moments are all those up to now
+-- the condition of an internal event now, after the moments before
 abbrev pub fires : Deed → Moment → List Moment → Kind → Target → Bool
-fires deed now moments kind T.Contract = contract_fires deed now kind
-fires deed now moments kind (T.Position i) = fires_of deed now moments i (slice_get deed.positions i) kind
+fires deed now before kind T.Contract = contract_fires deed now kind
+fires deed now before kind (T.Position i) = fires_of deed now before i (slice_get deed.positions i) kind
 
 -- how many internal events the contract and some positions have
 abbrev pub count_events : List Position → ℕ
 count_events [] = length contract_kinds
 count_events (p ∷ ps) = length (kinds_of p.form) + count_events ps
 
--- the internal events of the contract and of the positions from number i on
-abbrev pub events_from : ℕ → List Position → List Event
-events_from i [] = events_at contract_kinds T.Contract
-events_from i (p ∷ ps) = events_at (kinds_of p.form) (T.Position i) ++ events_from (i + 1) ps
+-- the internal events of a position, behind its number
+abbrev pub events_of_position : ℕ × Position → List InternalEvent
+events_of_position n = events_at (kinds_of n.1.form) (T.Position n.0)
 
--- the internal events of a deed
-abbrev pub events_of : Deed → List Event
-events_of deed = events_from 0 deed.positions
+-- the internal events of a deed: those of the positions in their order, then those of the contract
+abbrev pub events_of : Deed → List InternalEvent
+events_of deed = flat_map events_of_position (numbered deed) ++ events_at contract_kinds T.Contract

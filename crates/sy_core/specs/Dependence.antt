@@ -1,6 +1,7 @@
 -- Which internal events of the same point a condition looks at, and when a list has a deed's events in such an order that each looks only
 -- at events before it.
-use Rattle.std.specs.Prelude.{◌≡◌, ℕ, ◌+◌, false, List, [], ◌∷◌, ◌++◌, Option, Some, None, slice_get, length, ◌⊎◌, if◌then◌else◌}
+use Rattle.std.specs.Prelude.{◌≡◌, ℕ, false, List, [], ◌∷◌, ◌++◌, Option, Some, None, slice_get, length, map, flat_map, ◌⊎◌, if◌then◌else◌}
+use Rattle.std.specs.List.{Contains}
 use Rattle.sy_core.specs.declared.kind.Kind.{Kind}
 use Rattle.sy_core.specs.declared.kind.Kind.TheVariants.{Exerted, Triggered, Activated, Resumed, Suspended, Fulfilled, Violated, Expired, Discharged, Terminated, Completed}
 use Rattle.sy_core.specs.declared.kind.Target.{Target}
@@ -11,59 +12,43 @@ use Rattle.sy_core.specs.declared.position.Verb.TheVariants as Verbs
 use Rattle.sy_core.specs.declared.position.Position.{Position}
 use Rattle.sy_core.specs.declared.deed.Deed.{Deed}
 use Rattle.sy_core.specs.Moments.{Moment}
-use Rattle.sy_core.specs.States.{kinds_of}
-use Rattle.sy_core.specs.Mentions.{Event, events_at, names_of, names_of_duty}
-use Rattle.sy_core.specs.Conditions.{is_act, survives, is_awaited, is_remedy, fires, count_events}
-use Rattle.sy_core.specs.Rounds.{Among}
+use Rattle.sy_core.specs.Mentions.{InternalEvent, names_of, names_of_duty}
+use Rattle.sy_core.specs.Conditions.{survives, powers_to, remedies_of, awaited, events_of_position, fires, count_events}
 
--- the exertions of the powers from number i on that do this to that target
-abbrev pub exertions_from : ℕ → Verb → Target → List Position → List Event
-exertions_from i verb target [] = []
-exertions_from i verb target (p ∷ ps) =
-    if is_act verb target p.goal then (Exerted, T.Position i) ∷ exertions_from (i + 1) verb target ps else exertions_from (i + 1) verb target ps
-
--- the events that give its state to each remedy from number i on
-abbrev pub remedy_events_from : Target → ℕ → List Position → List Event
-remedy_events_from broken i [] = []
-remedy_events_from broken i (p ∷ ps) =
-    (if is_remedy broken p then events_at (kinds_of p.form) (T.Position i) else []) ++ remedy_events_from broken (i + 1) ps
-
--- the events that give its state to each awaited obligation from number i on, and of each remedy of one; all has every position
-abbrev pub awaited_events_from : List Position → ℕ → List Position → List Event
-awaited_events_from all i [] = []
-awaited_events_from all i (p ∷ ps) =
-    (if is_awaited p.form then events_at (kinds_of p.form) (T.Position i) ++ remedy_events_from (T.Position i) 0 all else []) ++ awaited_events_from all (i + 1) ps
-
--- what keeps a duty due, and ends it
-abbrev pub due_reads : Target → List Event
-due_reads x = (Activated, x) ∷ (Resumed, x) ∷ (Suspended, x) ∷ (Discharged, x) ∷ (Terminated, x) ∷ []
+-- what keeps a duty in force, and ends it
+abbrev pub duty_reads : Target → List InternalEvent
+duty_reads x = (Activated, x) ∷ (Resumed, x) ∷ (Suspended, x) ∷ (Discharged, x) ∷ (Terminated, x) ∷ []
 
 module _ (deed : Deed) where
   -- the exertions of the powers that do this to that target
-  abbrev pub exertions : Verb → Target → List Event
-  exertions verb target = exertions_from 0 verb target deed.positions
+  abbrev pub exertions : Verb → Target → List InternalEvent
+  exertions verb target = map (λ n. (Exerted, T.Position n.0)) (powers_to deed verb target)
+
+  -- the events that give the states that completion looks at: of each awaited obligation, and of its remedies
+  abbrev pub completion_reads : List InternalEvent
+  completion_reads = flat_map (λ n. events_of_position n ++ flat_map events_of_position (remedies_of deed (T.Position n.0))) (awaited deed)
 
   -- the exertions that end a position with the contract, where its form heeds it
-  abbrev pub contract_ends : Form → List Event
+  abbrev pub contract_ends : Form → List InternalEvent
   contract_ends form = if survives form then [] else exertions Verbs.Terminates T.Contract
 
   -- what the condition of an event of the contract looks at, one equation a row
-  abbrev pub contract_reads : Kind → List Event
+  abbrev pub contract_reads : Kind → List InternalEvent
   contract_reads Resumed = exertions Verbs.Resumes T.Contract
   contract_reads Suspended = exertions Verbs.Suspends T.Contract
   contract_reads Terminated = exertions Verbs.Terminates T.Contract
-  contract_reads Completed = (Suspended, T.Contract) ∷ (Terminated, T.Contract) ∷ awaited_events_from deed.positions 0 deed.positions
+  contract_reads Completed = (Suspended, T.Contract) ∷ (Terminated, T.Contract) ∷ completion_reads
   contract_reads _ = []
 
   -- what the condition of an event of position number i looks at, one equation a row
-  abbrev pub position_reads : ℕ → Position → Kind → List Event
+  abbrev pub position_reads : ℕ → Position → Kind → List InternalEvent
   position_reads i p Triggered = names_of p.trigger ++ exertions Verbs.Triggers (T.Position i)
   position_reads i p Activated = (Triggered, T.Position i) ∷ names_of p.antecedent
   position_reads i p Resumed = exertions Verbs.Resumes (T.Position i)
   position_reads i p Suspended =
       (Activated, T.Position i) ∷ (Resumed, T.Position i) ∷ (Exerted, T.Position i) ∷ exertions Verbs.Suspends (T.Position i)
-  position_reads i p Fulfilled = due_reads (T.Position i) ++ names_of_duty p.goal
-  position_reads i p Violated = due_reads (T.Position i) ++ names_of_duty p.goal
+  position_reads i p Fulfilled = duty_reads (T.Position i) ++ names_of_duty p.goal
+  position_reads i p Violated = duty_reads (T.Position i) ++ names_of_duty p.goal
   position_reads i p Expired = (Triggered, T.Position i) ∷ names_of p.antecedent
   position_reads i p Discharged = (Triggered, T.Position i) ∷ exertions Verbs.Discharges (T.Position i)
   position_reads i p Terminated =
@@ -71,17 +56,17 @@ module _ (deed : Deed) where
   position_reads i p _ = []
 
   -- nothing, for a position that isn't there
-  abbrev pub reads_of : ℕ → Option Position → Kind → List Event
+  abbrev pub reads_of : ℕ → Option Position → Kind → List InternalEvent
   reads_of i None kind = []
   reads_of i (Some p) kind = position_reads i p kind
 
   -- the internal events of the same point that an event's condition looks at
-  abbrev pub reads : Kind → Target → List Event
+  abbrev pub reads : Kind → Target → List InternalEvent
   reads kind T.Contract = contract_reads kind
   reads kind (T.Position i) = reads_of i (slice_get deed.positions i) kind
 
 -- the list has as many events as the deed, each after those that its condition looks at, where these can happen at all; no other event happens
-pub record IsOrderOf (deed : Deed) (order : List Event) : Type 0 where
-  pub reads_before : (earlier later : List Event) (e : Event) → order ≡ earlier ++ e ∷ later → (d : Event) → Among (reads deed e.0 e.1) d → Among earlier d ⊎ (Among order d → ⊥)
-  pub others : (e : Event) → (Among order e → ⊥) → (now : Moment) (moments : List Moment) → fires deed now moments e.0 e.1 ≡ false
+pub record IsOrderOf (deed : Deed) (order : List InternalEvent) : Type 0 where
+  pub reads_before : (earlier later : List InternalEvent) (e : InternalEvent) → order ≡ earlier ++ e ∷ later → (d : InternalEvent) → Contains (reads deed e.0 e.1) d → Contains earlier d ⊎ (Contains order d → ⊥)
+  pub others : (e : InternalEvent) → (Contains order e → ⊥) → (now : Moment) (before : List Moment) → fires deed now before e.0 e.1 ≡ false
   pub long : length order ≡ count_events deed.positions

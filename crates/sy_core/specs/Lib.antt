@@ -11,5 +11,5 @@ pub mod Prerequisites
 pub mod Dependence
 pub mod Tables
 pub mod Wakes
-pub mod Narrative
+pub mod Values
 pub mod Soundness

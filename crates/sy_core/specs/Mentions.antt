@@ -1,5 +1,6 @@
 -- What stands in a proposition: the internal events that it names, its date terms, and whether it asks for a state now.
-use Rattle.std.specs.Prelude.{Bool, true, false, ◌&&◌, ◌||◌, ◌==◌, List, [], ◌∷◌, ◌++◌, map}
+use Rattle.std.specs.Prelude.{Bool, true, false, ◌&&◌, ◌==◌, List, [], ◌∷◌, ◌++◌, map}
+use Rattle.std.specs.List.{list_any, flat_map}
 use Rattle.sy_core.specs.declared.kind.Kind.{Kind}
 use Rattle.sy_core.specs.declared.kind.Kind.TheVariants.{Violated}
 use Rattle.sy_core.specs.declared.kind.Target.{Target}
@@ -17,11 +18,11 @@ use Rattle.sy_core.specs.declared.position.Goal.{Goal}
 use Rattle.sy_core.specs.declared.position.Goal.TheVariants as G
 
 -- an internal event: its kind and its target
-abbrev pub Event : Type 0
-Event = Kind × Target
+abbrev pub InternalEvent : Type 0
+InternalEvent = Kind × Target
 
 -- the events of some kinds of one target
-abbrev pub events_at : List Kind → Target → List Event
+abbrev pub events_at : List Kind → Target → List InternalEvent
 events_at kinds target = map (λ kind. (kind, target)) kinds
 
 -- two targets are the same
@@ -30,31 +31,26 @@ same_target T.Contract T.Contract = true
 same_target (T.Position i) (T.Position j) = i == j
 same_target _ _ = false
 
--- the items of some lists, one list after the other
-abbrev pub joined : {X : Type 0} → List (List X) → List X
-joined [] = []
-joined (xs ∷ more) = xs ++ joined more
-
 -- the internal event that is named, if it is one
-abbrev pub named_by_event : Ev → List Event
+abbrev pub named_by_event : Ev → List InternalEvent
 named_by_event (Outer event guards) = []
 named_by_event (Inner kind target) = (kind, target) ∷ []
 
 -- the internal event that a date term begins with, if it does
-abbrev pub named_by_base : Base → List Event
+abbrev pub named_by_base : Base → List InternalEvent
 named_by_base (Fixed point) = []
 named_by_base (First e) = named_by_event e
 
 -- the internal event that a date term names, if it does
-abbrev pub named_by_date : DateTerm → List Event
+abbrev pub named_by_date : DateTerm → List InternalEvent
 named_by_date term = named_by_base term.base
 
 -- the internal events of one proposition, with those of each part in its place
-abbrev pub names_step : Prop-F (List Event) → List Event
+abbrev pub names_step : Prop-F (List InternalEvent) → List InternalEvent
 names_step (P.Const b) = []
 names_step (P.Not events) = events
-names_step (P.All parts) = joined parts
-names_step (P.Any parts) = joined parts
+names_step (P.All parts) = flat_map (λ part. part) parts
+names_step (P.Any parts) = flat_map (λ part. part) parts
 names_step (P.Happens e) = named_by_event e
 names_step (P.Before e to) = named_by_event e ++ named_by_date to
 names_step (P.After e from) = named_by_event e ++ named_by_date from
@@ -63,11 +59,11 @@ names_step (P.Occurs s from to) = named_by_date from ++ named_by_date to
 names_step (P.Holds s) = []
 
 -- the internal events that a proposition names, anywhere in it: under not and inside time too
-abbrev pub names_of : Prop → List Event
-names_of = fold-Prop (List Event) names_step
+abbrev pub names_of : Prop → List InternalEvent
+names_of = fold-Prop (List InternalEvent) names_step
 
 -- the internal events that a duty names; an act names none
-abbrev pub names_of_duty : Goal → List Event
+abbrev pub names_of_duty : Goal → List InternalEvent
 names_of_duty (G.Duty consequent) = names_of consequent
 names_of_duty (G.Act act) = []
 
@@ -75,8 +71,8 @@ names_of_duty (G.Act act) = []
 abbrev pub dates_step : Prop-F (List DateTerm) → List DateTerm
 dates_step (P.Const b) = []
 dates_step (P.Not dates) = dates
-dates_step (P.All parts) = joined parts
-dates_step (P.Any parts) = joined parts
+dates_step (P.All parts) = flat_map (λ part. part) parts
+dates_step (P.Any parts) = flat_map (λ part. part) parts
 dates_step (P.Happens e) = []
 dates_step (P.Before e to) = to ∷ []
 dates_step (P.After e from) = from ∷ []
@@ -93,16 +89,11 @@ abbrev pub dates_of_duty : Goal → List DateTerm
 dates_of_duty (G.Duty consequent) = dates_of consequent
 dates_of_duty (G.Act act) = []
 
--- some part does
-abbrev pub some_of : List Bool → Bool
-some_of [] = false
-some_of (b ∷ bs) = b || some_of bs
-
 -- whether one proposition has a holds, with the answer of each part in its place
 abbrev pub holds_step : Prop-F Bool → Bool
 holds_step (P.Not b) = b
-holds_step (P.All bs) = some_of bs
-holds_step (P.Any bs) = some_of bs
+holds_step (P.All bs) = list_any (λ b. b) bs
+holds_step (P.Any bs) = list_any (λ b. b) bs
 holds_step (P.Holds s) = true
 holds_step _ = false
 
@@ -110,11 +101,11 @@ holds_step _ = false
 abbrev pub has_holds : Prop → Bool
 has_holds = fold-Prop Bool holds_step
 
--- the kind is violated
-abbrev pub is_violated : Kind → Bool
-is_violated Violated = true
-is_violated _ = false
+-- the kind is that of a violation
+abbrev pub is_violation : Kind → Bool
+is_violation Violated = true
+is_violation _ = false
 
 -- the event is the violation of a target
-abbrev pub is_violation_of : Target → Event → Bool
-is_violation_of target event = is_violated event.0 && same_target event.1 target
+abbrev pub is_violation_of : Target → InternalEvent → Bool
+is_violation_of target event = is_violation event.0 && same_target event.1 target

@@ -1,7 +1,7 @@
 -- What stands at one point, and what the points up to now say of an event and of a date.
 -- A date term has the value of its beginning with its durations added from left to right. A fixed beginning has its date. time(E) has a
 -- value once E has happened, namely the first point at which it did.
-use Rattle.std.specs.Prelude.{ℕ, ℤ, Bool, ◌&&◌, List, [], ◌∷◌, Option, Some, None, int_lt, int_le, if◌then◌else◌}
+use Rattle.std.specs.Prelude.{ℕ, ℤ, Bool, ◌&&◌, List, [], ◌∷◌, ◌++◌, Option, Some, None, int_lt, int_le, if◌then◌else◌}
 use Rattle.std.specs.Option.{option_map}
 use Rattle.std.specs.List.{list_any}
 use Rattle.sy_base.specs.declared.time.TimeUnit.{TimeUnit}
@@ -21,7 +21,11 @@ pub record Moment : Type 0 where
   pub seen : Ev → Bool
   pub state : Target → StateOf
 
--- The moments up to now stand in a list, from start on, the oldest first.
+-- Moments stand in a list, from start on, the oldest first.
+
+-- the moments up to now: those before it, and now
+abbrev pub up_to : Moment → List Moment → List Moment
+up_to now before = before ++ now ∷ []
 
 -- the event happened at some point
 abbrev pub seen_ever : Ev → List Moment → Bool

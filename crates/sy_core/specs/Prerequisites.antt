@@ -1,8 +1,8 @@
 -- The nodes of a deed, what each needs, and the order in which a point is evaluated.
 -- A node stands for the internal events of one sort of one position, or for those of the contract. They are numbered in the order of the
 -- positions: for each power Exert, Trig, Act and End, for each obligation Trig, Act and End; last Contract.
-use Rattle.std.specs.Prelude.{ℕ, ◌+◌, Bool, true, false, ◌==◌, List, [], ◌∷◌, ◌++◌, map, length, Option, Some, None, slice_get, if◌then◌else◌}
-use Rattle.std.specs.List.{position_or_len, flat_map}
+use Rattle.std.specs.Prelude.{ℕ, Bool, true, false, ◌==◌, List, [], ◌∷◌, ◌++◌, map, length, Option, Some, None, slice_get, if◌then◌else◌}
+use Rattle.std.specs.List.{position_or_len, filter, flat_map}
 use Rattle.sy_core.specs.declared.kind.Kind.{Kind}
 use Rattle.sy_core.specs.declared.kind.Kind.TheVariants.{Exerted, Triggered, Activated, Resumed, Suspended, Fulfilled, Violated, Expired, Discharged, Terminated, Completed}
 use Rattle.sy_core.specs.declared.kind.Target.{Target}
@@ -13,8 +13,8 @@ use Rattle.sy_core.specs.declared.position.Verb.{Verb}
 use Rattle.sy_core.specs.declared.position.Verb.TheVariants as Verbs
 use Rattle.sy_core.specs.declared.position.Position.{Position}
 use Rattle.sy_core.specs.declared.deed.Deed.{Deed}
-use Rattle.sy_core.specs.Mentions.{Event, names_of, names_of_duty}
-use Rattle.sy_core.specs.Conditions.{is_act, acts_on_contract, survives, is_awaited, is_remedy}
+use Rattle.sy_core.specs.Mentions.{InternalEvent, names_of, names_of_duty}
+use Rattle.sy_core.specs.Conditions.{acts_on_contract, survives, numbered, powers_to, remedies_of, awaited}
 use Rattle.sy_core.specs.Orders.{order}
 
 -- the exertion, the creation, the coming into effect and the end of position number i, and the contract
@@ -34,49 +34,28 @@ same_node (End i) (End j) = i == j
 same_node Contract Contract = true
 same_node _ _ = false
 
+-- the creation, the coming into effect and the end of an obligation
+abbrev pub obligation_nodes : ℕ → List Node
+obligation_nodes i = Trig i ∷ Act i ∷ End i ∷ []
+
 -- the nodes of position number i
 abbrev pub nodes_of : Form → ℕ → List Node
 nodes_of Power i = Exert i ∷ Trig i ∷ Act i ∷ End i ∷ []
-nodes_of _ i = Trig i ∷ Act i ∷ End i ∷ []
+nodes_of _ i = obligation_nodes i
 
--- the nodes of the positions from number i on, and that of the contract
-abbrev pub nodes_from : ℕ → List Position → List Node
-nodes_from i [] = Contract ∷ []
-nodes_from i (p ∷ ps) = nodes_of p.form i ++ nodes_from (i + 1) ps
-
--- the exertions of the powers from number i on that do this to that target
-abbrev pub exerts_from : Verb → Target → ℕ → List Position → List Node
-exerts_from verb target i [] = []
-exerts_from verb target i (p ∷ ps) =
-    if is_act verb target p.goal then Exert i ∷ exerts_from verb target (i + 1) ps else exerts_from verb target (i + 1) ps
-
--- the exertions of the powers from number i on that act on the contract
-abbrev pub exerts_on_contract_from : ℕ → List Position → List Node
-exerts_on_contract_from i [] = []
-exerts_on_contract_from i (p ∷ ps) =
-    if acts_on_contract p.goal then Exert i ∷ exerts_on_contract_from (i + 1) ps else exerts_on_contract_from (i + 1) ps
+-- the exertions of some powers
+abbrev pub exertion_nodes : List (ℕ × Position) → List Node
+exertion_nodes powers = map (λ n. Exert n.0) powers
 
 -- the exertion of the position itself, where it is a power
 abbrev pub own_exert : Form → ℕ → List Node
 own_exert Power i = Exert i ∷ []
 own_exert _ i = []
 
--- the creation, the coming into effect and the end of each remedy from number i on
-abbrev pub remedy_nodes_from : Target → ℕ → List Position → List Node
-remedy_nodes_from broken i [] = []
-remedy_nodes_from broken i (p ∷ ps) =
-    (if is_remedy broken p then Trig i ∷ Act i ∷ End i ∷ [] else []) ++ remedy_nodes_from broken (i + 1) ps
-
--- those of each awaited obligation from number i on, and of each remedy of one; all has every position
-abbrev pub awaited_nodes_from : List Position → ℕ → List Position → List Node
-awaited_nodes_from all i [] = []
-awaited_nodes_from all i (p ∷ ps) =
-    (if is_awaited p.form then Trig i ∷ Act i ∷ End i ∷ remedy_nodes_from (T.Position i) 0 all else []) ++ awaited_nodes_from all (i + 1) ps
-
 module _ (deed : Deed) where
   -- the nodes, by number
   abbrev pub nodes : List Node
-  nodes = nodes_from 0 deed.positions
+  nodes = flat_map (λ n. nodes_of n.1.form n.0) (numbered deed) ++ Contract ∷ []
 
   -- a node's number
   abbrev pub number_of : Node → ℕ
@@ -84,7 +63,16 @@ module _ (deed : Deed) where
 
   -- the exertions of the powers that do this to that target
   abbrev pub exerts : Verb → Target → List Node
-  exerts verb target = exerts_from verb target 0 deed.positions
+  exerts verb target = exertion_nodes (powers_to deed verb target)
+
+  -- the exertions of the powers that act on the contract
+  abbrev pub exerts_on_contract : List Node
+  exerts_on_contract = exertion_nodes (filter (λ n. acts_on_contract n.1.goal) (numbered deed))
+
+  -- the nodes that completion needs: of each awaited obligation, and of its remedies
+  abbrev pub completion_nodes : List Node
+  completion_nodes =
+      flat_map (λ n. obligation_nodes n.0 ++ flat_map (λ remedy. obligation_nodes remedy.0) (remedies_of deed (T.Position n.0))) (awaited deed)
 
   -- the nodes of an event of the contract
   abbrev pub contract_event_nodes : Kind → List Node
@@ -114,7 +102,7 @@ module _ (deed : Deed) where
   event_nodes kind (T.Position i) = position_event_nodes i kind
 
   -- the nodes of the events that propositions name
-  abbrev pub named_nodes : List Event → List Node
+  abbrev pub named_nodes : List InternalEvent → List Node
   named_nodes events = flat_map (λ event. event_nodes event.0 event.1) events
 
   -- what Trig of position number i needs
@@ -145,7 +133,7 @@ module _ (deed : Deed) where
   needs (Trig i) = needs_at trig_needs i (slice_get deed.positions i)
   needs (Act i) = needs_at act_needs i (slice_get deed.positions i)
   needs (End i) = needs_at end_needs i (slice_get deed.positions i)
-  needs Contract = exerts_on_contract_from 0 deed.positions ++ awaited_nodes_from deed.positions 0 deed.positions
+  needs Contract = exerts_on_contract ++ completion_nodes
 
   -- the numbers of what the node that is there needs
   abbrev pub numbered_needs_of : Option Node → List ℕ

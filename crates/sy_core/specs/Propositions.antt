@@ -7,18 +7,19 @@
 --   happensWithin(E, D, F) True where E happened from D on and before F; False from F on where it didn't
 --   occurs(S, D, F)        False where S failed at a point from D on and before F; True from F on where it didn't
 --   holds(S)               True where S holds at the start of the point, else False
-use Rattle.std.specs.Prelude.{ℤ, Bool, true, false, not, ◌&&◌, List, [], ◌∷◌, ◌++◌, Option, Some, None, int_lt, int_le}
+use Rattle.std.specs.Prelude.{ℤ, Bool, true, false, not, ◌&&◌, List, [], ◌∷◌, Option, Some, None, int_lt, int_le}
 use Rattle.std.specs.List.{list_any}
 use Rattle.sy_base.specs.declared.time.TimeUnit.{TimeUnit}
 use Rattle.sy_core.specs.declared.table.Verdict.{Verdict}
 use Rattle.sy_core.specs.declared.table.Verdict.TheVariants.{False, Open, True}
+use Rattle.sy_core.specs.declared.date_term.DateTerm.{DateTerm}
 use Rattle.sy_core.specs.declared.proposition.Situation.{Situation}
 use Rattle.sy_core.specs.declared.proposition.Prop.{Prop}
 use Rattle.sy_core.specs.declared.proposition.Prop.TheOpen.{Prop-F}
 use Rattle.sy_core.specs.declared.proposition.Prop.TheOpen as P
 use Rattle.sy_core.specs.declared.proposition.Prop.TheFolds.{fold-Prop}
 use Rattle.sy_core.specs.States.{same_state}
-use Rattle.sy_core.specs.Moments.{Moment, seen_ever, seen_before, seen_after, seen_between, date_value}
+use Rattle.sy_core.specs.Moments.{Moment, up_to, seen_ever, seen_before, seen_after, seen_between, date_value}
 
 -- not
 abbrev pub opposite : Verdict → Verdict
@@ -74,34 +75,35 @@ situation_holds s m = as_said s.equal (same_state (m.state s.target) s.state)
 abbrev pub fails_within : Situation → ℤ → ℤ → List Moment → Bool
 fails_within s from to moments = list_any (λ m. (int_le from m.point && int_lt m.point to) && not (situation_holds s m)) moments
 
--- the verdict of one proposition, with the verdict of each part in its place; now is the last of the moments
-abbrev pub verdict_step : TimeUnit → Moment → List Moment → Prop-F Verdict → Verdict
-verdict_step unit now moments (P.Const b) = verdict_by b (not b)
-verdict_step unit now moments (P.Not v) = opposite v
-verdict_step unit now moments (P.All vs) = least vs
-verdict_step unit now moments (P.Any vs) = greatest vs
-verdict_step unit now moments (P.Happens e) = verdict_by (seen_ever e moments) false
-verdict_step unit now moments (P.Before e to) =
-    with_date (date_value unit to moments) (λ d. verdict_by (seen_before e d moments) (int_le d now.point))
-verdict_step unit now moments (P.After e from) =
-    with_date (date_value unit from moments) (λ d. verdict_by (seen_after e d moments) false)
-verdict_step unit now moments (P.Within e from to) =
-    with_date (date_value unit from moments) (λ d.
-    with_date (date_value unit to moments) (λ d'.
-    verdict_by (seen_between e d d' moments) (int_le d' now.point)))
-verdict_step unit now moments (P.Occurs s from to) =
-    with_date (date_value unit from moments) (λ d.
-    with_date (date_value unit to moments) (λ d'.
-    verdict_by (int_le d' now.point && not (fails_within s d d' moments)) (fails_within s d d' moments)))
-verdict_step unit now moments (P.Holds s) = verdict_by (situation_holds s now) (not (situation_holds s now))
+module _ (unit : TimeUnit) (now : Moment) (before : List Moment) where
+  -- a term's date, by the moments up to now
+  abbrev pub date_now : DateTerm → Option ℤ
+  date_now term = date_value unit term (up_to now before)
 
--- the verdict now, where the moments are all those up to now
-abbrev pub verdict_in : TimeUnit → Moment → List Moment → Prop → Verdict
-verdict_in unit now moments = fold-Prop Verdict (verdict_step unit now moments)
+  -- the verdict of one proposition, with the verdict of each part in its place
+  abbrev pub verdict_step : Prop-F Verdict → Verdict
+  verdict_step (P.Const b) = verdict_by b (not b)
+  verdict_step (P.Not v) = opposite v
+  verdict_step (P.All vs) = least vs
+  verdict_step (P.Any vs) = greatest vs
+  verdict_step (P.Happens e) = verdict_by (seen_ever e (up_to now before)) false
+  verdict_step (P.Before e to) =
+      with_date (date_now to) (λ d. verdict_by (seen_before e d (up_to now before)) (int_le d now.point))
+  verdict_step (P.After e from) =
+      with_date (date_now from) (λ d. verdict_by (seen_after e d (up_to now before)) false)
+  verdict_step (P.Within e from to) =
+      with_date (date_now from) (λ d.
+      with_date (date_now to) (λ d'.
+      verdict_by (seen_between e d d' (up_to now before)) (int_le d' now.point)))
+  verdict_step (P.Occurs s from to) =
+      with_date (date_now from) (λ d.
+      with_date (date_now to) (λ d'.
+      verdict_by (int_le d' now.point && not (fails_within s d d' (up_to now before))) (fails_within s d d' (up_to now before))))
+  verdict_step (P.Holds s) = verdict_by (situation_holds s now) (not (situation_holds s now))
 
--- the verdict now, after the moments before
-abbrev pub verdict_at : TimeUnit → Moment → List Moment → Prop → Verdict
-verdict_at unit now before = verdict_in unit now (before ++ now ∷ [])
+  -- the verdict now, after the moments before
+  abbrev pub verdict_at : Prop → Verdict
+  verdict_at = fold-Prop Verdict verdict_step
 
 -- the verdict is True
 abbrev pub is_true : Verdict → Bool

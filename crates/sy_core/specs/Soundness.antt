@@ -35,7 +35,7 @@ use Rattle.sy_core.specs.declared.deed.AttrDecl.{AttrDecl}
 use Rattle.sy_core.specs.declared.deed.EventDecl.{EventDecl}
 use Rattle.sy_core.specs.declared.deed.Deed.{Deed}
 use Rattle.sy_core.specs.Conditions.{is_power, is_obligation}
-use Rattle.sy_core.specs.Narrative.{is_dated, is_value_of}
+use Rattle.sy_core.specs.Values.{is_dated, is_value_of}
 
 -- the states that a position of a form can be in
 abbrev pub is_state_of : Form → StateOf → Bool

@@ -30,8 +30,8 @@ marks test positions [] = []
 marks test positions (m ∷ later) = marks_at test m 0 positions ++ marks test positions later
 
 -- the position is violated at the moment
-abbrev pub is_broken : Moment → ℕ → Bool
-is_broken m i = m.seen (Inner Violated (T.Position i))
+abbrev pub is_violated : Moment → ℕ → Bool
+is_violated m i = m.seen (Inner Violated (T.Position i))
 
 -- the narrative exerts the power at the moment, and it isn't exerted
 abbrev pub is_void : Moment → ℕ → Bool
@@ -48,7 +48,7 @@ table_after deed narrative n = record {
   at = deed.start +ℤ pos n;
   contract = state_at deed narrative (suc n) T.Contract;
   states = states_of (state_at deed narrative (suc n)) 0 deed.positions;
-  violations = marks is_broken deed.positions (chronicle deed narrative (suc n));
+  violations = marks is_violated deed.positions (chronicle deed narrative (suc n));
   voids = marks is_void deed.positions (chronicle deed narrative (suc n));
   posts = map (verdict_at deed.unit (moment_at deed narrative n) (chronicle deed narrative n)) deed.posts;
 }

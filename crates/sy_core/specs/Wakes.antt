@@ -33,8 +33,8 @@ abbrev pub falls_on : TimeUnit → ℤ → List Moment → DateTerm → Bool
 falls_on unit point moments term = is_point point (date_value unit term moments)
 
 -- something internal happens at the moment
-abbrev pub is_busy : Deed → Moment → Bool
-is_busy deed m = list_any (λ event. m.seen (Inner event.0 event.1)) (events_of deed)
+abbrev pub has_internal_event : Deed → Moment → Bool
+has_internal_event deed m = list_any (λ event. m.seen (Inner event.0 event.1)) (events_of deed)
 
 -- the n-th point after start is a wake point
 abbrev pub is_wake_after : Deed → List Happening → ℕ → Bool
@@ -42,7 +42,7 @@ is_wake_after deed narrative zero = true
 is_wake_after deed narrative (suc n) =
     list_any (λ h. int_eq h.point (deed.start +ℤ pos (suc n))) narrative
     || list_any (falls_on deed.unit (deed.start +ℤ pos (suc n)) (chronicle deed narrative (suc (suc n)))) (dates_of_deed deed)
-    || is_busy deed (moment_at deed narrative n)
+    || has_internal_event deed (moment_at deed narrative n)
 
 -- the point is a wake point
 abbrev pub is_wake_point : Deed → List Happening → ℤ → Bool

@@ -5,18 +5,18 @@ ghost use Rattle.sy_core.specs.declared.deed.Deed.{Deed};
 ghost use Rattle.sy_core.specs.declared.happening.What.{What};
 ghost use Rattle.sy_core.specs.Rounds.{IsSettled};
 ghost use Rattle.sy_core.specs.Moments.{Moment};
-ghost use Rattle.sy_core.specs.Mentions.{Event};
+ghost use Rattle.sy_core.specs.Mentions.{InternalEvent};
 ghost use Rattle.sy_core.specs.Chronicle.{conditions, internal_events};
 ghost use Rattle.sy_core.specs.Dependence.{IsOrderOf};
 
 /// The law of the rounds, and no program: for a deed whose internal events have an order, those of
 /// a point are a set that the conditions leave as it is, and no other set is so.
 pub fn rounds_settle()
-    ensures settled { (deed : Deed) (order : List Event) → IsOrderOf deed order
-        → (point : ℤ) (whats : List What) (state : Target → StateOf) (before : List Moment)
-        → IsSettled (conditions deed point whats state before) (internal_events deed point whats state before) }
-    ensures alone { (deed : Deed) (order : List Event) → IsOrderOf deed order
-        → (point : ℤ) (whats : List What) (state : Target → StateOf) (before : List Moment)
-        → (set : Event → Bool) → IsSettled (conditions deed point whats state before) set
-        → (event : Event) → set event ≡ internal_events deed point whats state before event }
+    ensures settled { (deed : Deed) (order : List InternalEvent) → IsOrderOf deed order
+        → (point : ℤ) (happenings : List What) (state : Target → StateOf) (before : List Moment)
+        → IsSettled (conditions deed point happenings state before) (internal_events deed point happenings state before) }
+    ensures alone { (deed : Deed) (order : List InternalEvent) → IsOrderOf deed order
+        → (point : ℤ) (happenings : List What) (state : Target → StateOf) (before : List Moment)
+        → (set : InternalEvent → Bool) → IsSettled (conditions deed point happenings state before) set
+        → (event : InternalEvent) → set event ≡ internal_events deed point happenings state before event }
 {}
