@@ -1,5 +1,5 @@
 -- How far a date and the durations added to it reach.
-use Rattle.std.proofs.Common.{◌≡◌, ℕ, suc, ◌+◌, ◌*◌, ◌/◌, ◌^◌, ◌<◌, ◌≤◌, ℤ, pos, ◌+ℤ◌, ◌≤ℤ◌, Bool, true, false, not, ◌&&◌, nat_le, int_le, if◌then◌else◌, List, [], ◌∷◌, length, Some, None, refl, subst, arith, rules, w64, to_z, of_z}
+use Rattle.std.proofs.Common.{◌≡◌, ℕ, suc, ◌+◌, ◌*◌, ◌/◌, ◌^◌, ◌<◌, ◌≤◌, ℤ, pos, ◌+ℤ◌, ◌≤ℤ◌, Bool, true, false, not, ◌&&◌, nat_le, int_le, if◌then◌else◌, List, [], ◌∷◌, map, length, Some, None, refl, subst, arith, rules, w64, to_z, of_z}
 use Rattle.std.specs.List.{All, list_all}
 use Rattle.std.proofs.lemmas.Int.{ints, to_z-of_z}
 use Rattle.std.proofs.lemmas.Bool.Decides.{nat_tests}
@@ -15,14 +15,14 @@ use Rattle.sy_core.specs.declared.deed.Deed.{Deed}
 use Rattle.sy_core.specs.declared.event.Ev.{Ev}
 use Rattle.sy_core.specs.declared.date_term.Base.{Base}
 use Rattle.sy_core.specs.declared.date_term.Base.TheVariants.{Fixed, First}
-use Rattle.sy_core.specs.Moments.{first_point, base_value}
+use Rattle.sy_core.specs.Moments.{Moment, up_to, first_point, base_value}
 use Rattle.sy_core.specs.Soundness.{is_duration_of, is_sound_base, is_sound_date}
-use Rattle.sy_axioms.specs.declared.day.Day.{Day}
-use Rattle.sy_axioms.specs.Days.{moment_of, moments_to}
-use Rattle.sy_axioms.specs.Ready.{IsReady}
+use Rattle.sy_axioms.specs.declared.moment.Moment.{Moment as KeptMoment}
+use Rattle.sy_axioms.specs.Machine.KeptMoments.{moment_of}
+use Rattle.sy_axioms.specs.Machine.Ready.{IsReady}
 use Rattle.sy_axioms.proofs.Passing.{first, second}
 
--- how many of a unit the days of 400 years have
+-- how many of a unit the moments of 400 years have
 abbrev pub span : TimeUnit → ℕ
 span Minute = 210379680
 span Hour = 3506328
@@ -81,17 +81,21 @@ added_is_reached unit i point d h r =
 int_le_of : (a b : ℤ) → int_le a b ≡ true → a ≤ℤ b
 int_le_of a b h = record { le = T_from_true (int_le a b) h }
 
-module _ (deed : Deed) (before : List Day) (now : Day) (ready : IsReady deed before now) where
-  first_dated : (e : Ev) (days : List Day) (point : ℤ) → All (λ day. IsDated deed.unit day.point) days → first_point e (moments_to days now) ≡ Some point → IsDated deed.unit point
+-- the moments of what is kept, and of what is kept now
+abbrev moments_to : List KeptMoment → KeptMoment → List Moment
+moments_to before now = up_to (moment_of now) (map moment_of before)
+
+module _ (deed : Deed) (before : List KeptMoment) (now : KeptMoment) (ready : IsReady deed before now) where
+  first_dated : (e : Ev) (moments : List KeptMoment) (point : ℤ) → All (λ kept. IsDated deed.unit kept.point) moments → first_point e (moments_to moments now) ≡ Some point → IsDated deed.unit point
   first_dated e [] point dated h = here ((moment_of now).seen e) h
     where
       here : (b : Bool) → (if b then Some now.point else None) ≡ Some point → IsDated deed.unit point
       here true h = subst (IsDated deed.unit) (cc) ready.now_dated
       here false h = cc
-  first_dated e (day ∷ days) point dated h = here ((moment_of day).seen e) (first_dated e days point (λ k d lt. dated (suc k) d (omega arith))) h
+  first_dated e (kept ∷ moments) point dated h = here ((moment_of kept).seen e) (first_dated e moments point (λ k d lt. dated (suc k) d (omega arith))) h
     where
-      here : (b : Bool) → (first_point e (moments_to days now) ≡ Some point → IsDated deed.unit point) → (if b then Some day.point else first_point e (moments_to days now)) ≡ Some point → IsDated deed.unit point
-      here true later h = subst (IsDated deed.unit) (cc) (dated 0 day (omega arith))
+      here : (b : Bool) → (first_point e (moments_to moments now) ≡ Some point → IsDated deed.unit point) → (if b then Some kept.point else first_point e (moments_to moments now)) ≡ Some point → IsDated deed.unit point
+      here true later h = subst (IsDated deed.unit) (cc) (dated 0 kept (omega arith))
       here false later h = later h
 
   sound_base : (term : DateTerm) → is_sound_date deed term ≡ true → is_sound_base deed term.base ≡ true

@@ -18,14 +18,15 @@ use Rattle.sy_core.specs.declared.happening.What.{What}
 use Rattle.sy_core.specs.declared.happening.Happening.{Happening}
 use Rattle.sy_core.specs.Matching.{matches}
 use Rattle.sy_core.specs.Moments.{Moment}
-use Rattle.sy_core.specs.Conditions.{count_events}
+use Rattle.sy_core.specs.Conditions.{fires, count_events}
 use Rattle.sy_core.specs.Rounds.{rounds}
-use Rattle.sy_core.specs.Chronicle.{assuming, fires_now, internal_events, at_point, exerts, stands, states_from, states_next, position_after, first_state, chronicle, state_at, moment_at}
+use Rattle.sy_core.specs.Chronicle.{assuming, internal_events, at_point, exerts, stands, states_from, states_next, position_after, first_state, chronicle, state_at, moment_at}
 use Rattle.sy_core.specs.Tables.{states_of}
-use Rattle.sy_axioms.specs.declared.day.Day.{Day}
-use Rattle.sy_axioms.specs.declared.day.States.{States}
+use Rattle.sy_core.proofs.Members.{among, contained}
+use Rattle.sy_axioms.specs.declared.moment.Moment.{Moment as KeptMoment}
+use Rattle.sy_axioms.specs.declared.moment.States.{States}
 use Rattle.sy_axioms.specs.declared.plain.Plain.{Plain}
-use Rattle.sy_axioms.specs.Days.{moment_of, state_in, next_states, states_past}
+use Rattle.sy_axioms.specs.Machine.KeptMoments.{moment_of, state_in, next_states, states_past}
 use Rattle.sy_axioms.specs.Standing.{StandsFor, HasExactly}
 use Rattle.sy_axioms.proofs.Members.{bool_same, any_in, some_in, any_of_kept, any_of_all}
 
@@ -67,7 +68,7 @@ module _ (s : Target → StateOf) where
           ∙ (ap (λ o. unwrap_or o S.Null) (kept_at 0 deed.positions i)
           ∙ kept_or (slice_get deed.positions i) i (0 + i) (omega arith) (null i))
 
--- the states after a day are those of inertia
+-- the states after a moment are those of inertia
 next_states_are : (deed : Deed) (m : Moment) (j : ℕ) (ps : List Position) → ((k : ℕ) → slice_get deed.positions (j + k) ≡ slice_get ps k) → next_states m j ps ≡ states_of (states_next deed m) j ps
 next_states_are deed m j [] h = refl
 next_states_are deed m j (p ∷ ps) h =
@@ -85,14 +86,14 @@ module _ (narrative : List Happening) (point : ℤ) (at : List Happening) (exact
       there : list_any (λ (h : Happening). p h.what) at ≡ true → list_any (λ (h : Happening). int_eq h.point point && p h.what) narrative ≡ true
       there h =
           let s = some_in (λ (h : Happening). p h.what) at h in
-          let g = exact.given s.0 s.1 in
-          any_in (λ (h : Happening). int_eq h.point point && p h.what) narrative s.0 g.0 ((Decides-and _ _ (Decides-int_eq s.0.point point) (λ q. q, λ q. q)).1 (g.1, s.2))
+          let g = exact.given s.0 (contained at s.0 s.1) in
+          any_in (λ (h : Happening). int_eq h.point point && p h.what) narrative s.0 (among narrative s.0 g.0) ((Decides-and _ _ (Decides-int_eq s.0.point point) (λ q. q, λ q. q)).1 (g.1, s.2))
 
       back : list_any (λ (h : Happening). int_eq h.point point && p h.what) narrative ≡ true → list_any (λ (h : Happening). p h.what) at ≡ true
       back h =
           let s = some_in (λ (h : Happening). int_eq h.point point && p h.what) narrative h in
           let d = (Decides-and {Q = p s.0.what ≡ true} _ _ (Decides-int_eq s.0.point point) (λ q. q, λ q. q)).0 s.2 in
-          any_in (λ (h : Happening). p h.what) at s.0 (exact.all s.0 s.1 d.0) d.1
+          any_in (λ (h : Happening). p h.what) at s.0 (among at s.0 (exact.all s.0 (contained narrative s.0 s.1) d.0)) d.1
 
   -- the happenings that are given make the same moment as those of the narrative
   assuming_same : assuming point (map (λ h. h.what) at) ≡ assuming point (at_point narrative point)
@@ -109,27 +110,27 @@ module _ (narrative : List Happening) (point : ℤ) (at : List Happening) (exact
 
 -- the moment that a point's happenings give, from the states and the moments before
 abbrev moment_by : Deed → ((Target → StateOf) → (Kind × Target → Bool) → Moment) → (Target → StateOf) → List Moment → Moment
-moment_by deed A state before = A state (rounds (λ set event. fires_now deed (A state set) before event.0 event.1) (count_events deed.positions))
+moment_by deed A state before = A state (rounds (λ set event. fires deed (A state set) before event.0 event.1) (count_events deed.positions))
 
--- the evaluator q keeps one day more than p, and the states after it
-pub record GoesOn (deed : Deed) (p q : Plain) (day : Day) (at : List Happening) : Type 0 where
-  pub days : q.days ≡ p.days ++ day ∷ []
+-- the evaluator q keeps one moment more than p, and the states after it
+pub record GoesOn (deed : Deed) (p q : Plain) (kept : KeptMoment) (at : List Happening) : Type 0 where
+  pub moments : q.moments ≡ p.moments ++ kept ∷ []
   pub point : q.point ≡ p.point +ℤ pos 1
-  pub moment : moment_of day ≡ assuming p.point (map (λ h. h.what) at) (state_in p.states) (internal_events deed p.point (map (λ h. h.what) at) (state_in p.states) (map moment_of p.days))
-  pub states : q.states ≡ states_past deed day
+  pub moment : moment_of kept ≡ assuming p.point (map (λ h. h.what) at) (state_in p.states) (internal_events deed p.point (map (λ h. h.what) at) (state_in p.states) (map moment_of p.moments))
+  pub states : q.states ≡ states_past deed kept
 
-pub stands_on : (deed : Deed) (narrative : List Happening) (n : ℕ) (p q : Plain) (day : Day) (at : List Happening) → GoesOn deed p q day at → StandsFor p deed narrative n → HasExactly narrative (deed.start +ℤ pos n) at → StandsFor q deed narrative (suc n)
-stands_on deed narrative n p q day at on stands exact =
+pub stands_on : (deed : Deed) (narrative : List Happening) (n : ℕ) (p q : Plain) (kept : KeptMoment) (at : List Happening) → GoesOn deed p q kept at → StandsFor p deed narrative n → HasExactly narrative (deed.start +ℤ pos n) at → StandsFor q deed narrative (suc n)
+stands_on deed narrative n p q kept at on stands exact =
     let A = ap (λ (x : ℤ). assuming x (map (λ h. h.what) at)) stands.at_point ∙ assuming_same narrative (deed.start +ℤ pos n) at exact in
     let state = kept_states (state_at deed narrative n) deed p.states stands.contract stands.positions (null_past deed narrative n) in
-    let moment : moment_of day ≡ moment_at deed narrative n = on.moment ∙ (λ j. moment_by deed (A j) (state j) (stands.told j)) in
-    let after : states_next deed (moment_of day) ≡ state_at deed narrative (suc n) = ap (states_next deed) moment ∙ sym (state_at-suc deed narrative n) in
+    let moment : moment_of kept ≡ moment_at deed narrative n = on.moment ∙ (λ j. moment_by deed (A j) (state j) (stands.kept j)) in
+    let after : states_next deed (moment_of kept) ≡ state_at deed narrative (suc n) = ap (states_next deed) moment ∙ sym (state_at-suc deed narrative n) in
     record {
       at_point = rw (on.point, stands.at_point) (omega (arith, ints));
-      told = ap (map moment_of) on.days ∙ (map-append moment_of p.days (day ∷ []) ∙ (λ j. stands.told j ++ moment j ∷ []));
+      kept = ap (map moment_of) on.moments ∙ (map-append moment_of p.moments (kept ∷ []) ∙ (λ j. stands.kept j ++ moment j ∷ []));
       contract = ap (λ x. x.contract) on.states ∙ ap (λ s. s T.Contract) after;
       positions =
           ap (λ x. x.positions) on.states
-          ∙ (next_states_are deed (moment_of day) 0 deed.positions (λ k. let e : 0 + k ≡ k = omega arith in ap (slice_get deed.positions) e)
+          ∙ (next_states_are deed (moment_of kept) 0 deed.positions (λ k. let e : 0 + k ≡ k = omega arith in ap (slice_get deed.positions) e)
           ∙ ap (λ s. states_of s 0 deed.positions) after);
     }

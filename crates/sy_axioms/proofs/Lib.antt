@@ -1,9 +1,10 @@
 pub mod Dates
 pub mod Equal
 pub mod GoesOn
-pub mod LastDay
+pub mod LastMoment
 pub mod Members
 pub mod Mentions
+pub mod Numbered
 pub mod OneRound
 pub mod Passing
 pub mod Verdicts

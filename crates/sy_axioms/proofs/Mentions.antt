@@ -1,39 +1,36 @@
 -- What a proposition with parts mentions, by what the parts mention.
 use Rattle.std.proofs.Common.{◌≡◌, ℕ, suc, ◌<◌, Bool, true, false, ◌||◌, List, [], ◌∷◌, length, map, drop, get_or, refl, sym, ◌∙◌, ap, subst, drop-cons, ◌≤◌, ◌⊎◌, inl, inr, arith}
-use Rattle.std.specs.List.{list_any}
+use Rattle.std.specs.List.{list_any, flat_map}
 use Rattle.std.proofs.lemmas.Grind.{common_steps}
 use Rattle.std.proofs.lemmas.List.Folds.{list_any-append}
+use Rattle.sy_axioms.proofs.Members.{any_of_all}
 use Rattle.sy_core.specs.declared.kind.Target.{Target}
 use Rattle.sy_core.specs.declared.proposition.Prop.{Prop}
 use Rattle.sy_core.specs.declared.proposition.Prop.TheVariants as Props
 use Rattle.sy_core.specs.declared.proposition.Prop.TheVariants.{rolls-All, rolls-Any}
 use Rattle.sy_core.specs.declared.proposition.Prop.TheOpen as P
 use Rattle.sy_core.specs.declared.proposition.Prop.TheFolds.{fold-roll-Prop}
-use Rattle.sy_core.specs.Mentions.{Event, joined, some_of, names_step, names_of, holds_step, has_holds, is_violation_of}
-
-some_of-map : (test : Prop → Bool) (ps : List Prop) → some_of (map test ps) ≡ list_any test ps
-some_of-map test [] = refl
-some_of-map test (p ∷ ps) = ap (λ b. test p || b) (some_of-map test ps)
+use Rattle.sy_core.specs.Mentions.{InternalEvent, names_step, names_of, holds_step, has_holds, is_violation_of}
 
 pub has_holds-parts : (p : Prop) (ps : List Prop) → (p ≡ Props.All ps) ⊎ (p ≡ Props.Any ps) → has_holds p ≡ list_any has_holds ps
-has_holds-parts p ps (inl e) = ap has_holds (e ∙ sym (rolls-All ps)) ∙ (fold-roll-Prop Bool holds_step (P.All ps) ∙ some_of-map has_holds ps)
-has_holds-parts p ps (inr e) = ap has_holds (e ∙ sym (rolls-Any ps)) ∙ (fold-roll-Prop Bool holds_step (P.Any ps) ∙ some_of-map has_holds ps)
+has_holds-parts p ps (inl e) = ap has_holds (e ∙ sym (rolls-All ps)) ∙ (fold-roll-Prop Bool holds_step (P.All ps) ∙ any_of_all has_holds (λ b. b) ps)
+has_holds-parts p ps (inr e) = ap has_holds (e ∙ sym (rolls-Any ps)) ∙ (fold-roll-Prop Bool holds_step (P.Any ps) ∙ any_of_all has_holds (λ b. b) ps)
 
-any_of_joined : (test : Event → Bool) (ps : List Prop) → list_any test (joined (map names_of ps)) ≡ list_any (λ p. list_any test (names_of p)) ps
-any_of_joined test [] = refl
-any_of_joined test (p ∷ ps) = list_any-append test (names_of p) (joined (map names_of ps)) ∙ ap (λ b. list_any test (names_of p) || b) (any_of_joined test ps)
+any_of_named : (test : InternalEvent → Bool) (ps : List Prop) → list_any test (flat_map (λ part. part) (map names_of ps)) ≡ list_any (λ p. list_any test (names_of p)) ps
+any_of_named test [] = refl
+any_of_named test (p ∷ ps) = list_any-append test (names_of p) (flat_map (λ part. part) (map names_of ps)) ∙ ap (λ b. list_any test (names_of p) || b) (any_of_named test ps)
 
 -- the violation of a target is among the events that a proposition names
 abbrev pub is_named : Target → Prop → Bool
-is_named broken p = list_any (is_violation_of broken) (names_of p)
+is_named violated p = list_any (is_violation_of violated) (names_of p)
 
-pub is_named-parts : (broken : Target) (p : Prop) (ps : List Prop) → (p ≡ Props.All ps) ⊎ (p ≡ Props.Any ps) → is_named broken p ≡ list_any (is_named broken) ps
-is_named-parts broken p ps (inl e) =
-    ap (is_named broken) (e ∙ sym (rolls-All ps))
-    ∙ (ap (list_any (is_violation_of broken)) (fold-roll-Prop (List Event) names_step (P.All ps)) ∙ any_of_joined (is_violation_of broken) ps)
-is_named-parts broken p ps (inr e) =
-    ap (is_named broken) (e ∙ sym (rolls-Any ps))
-    ∙ (ap (list_any (is_violation_of broken)) (fold-roll-Prop (List Event) names_step (P.Any ps)) ∙ any_of_joined (is_violation_of broken) ps)
+pub is_named-parts : (violated : Target) (p : Prop) (ps : List Prop) → (p ≡ Props.All ps) ⊎ (p ≡ Props.Any ps) → is_named violated p ≡ list_any (is_named violated) ps
+is_named-parts violated p ps (inl e) =
+    ap (is_named violated) (e ∙ sym (rolls-All ps))
+    ∙ (ap (list_any (is_violation_of violated)) (fold-roll-Prop (List InternalEvent) names_step (P.All ps)) ∙ any_of_named (is_violation_of violated) ps)
+is_named-parts violated p ps (inr e) =
+    ap (is_named violated) (e ∙ sym (rolls-Any ps))
+    ∙ (ap (list_any (is_violation_of violated)) (fold-roll-Prop (List InternalEvent) names_step (P.Any ps)) ∙ any_of_named (is_violation_of violated) ps)
 
 -- a test that passes at an item of what is left
 pub found_at : (test : Prop → Bool) (ps : List Prop) (i : ℕ) (p : Prop) (whole : Bool) → i < length ps → p ≡ get_or ps i p → test p ≡ true → list_any test (drop i ps) ≡ whole → true ≡ whole

@@ -15,9 +15,9 @@ use Rattle.sy_core.specs.declared.date_term.DateTerm.{DateTerm}
 use Rattle.sy_core.specs.declared.proposition.Situation.{Situation}
 use Rattle.sy_core.specs.declared.deed.Deed.{Deed}
 use Rattle.sy_core.specs.Moments.{Moment}
-use Rattle.sy_core.specs.Propositions.{lesser, greater, least, greatest, verdict_step, verdict_in}
+use Rattle.sy_core.specs.Propositions.{lesser, greater, least, greatest, verdict_step, verdict_at}
 use Rattle.sy_core.specs.Soundness.{is_sound_event, is_sound_date, is_sound_situation, is_sound_step, is_sound_prop}
-use Rattle.sy_axioms.proofs.Passing.{second, passes_at}
+use Rattle.sy_axioms.proofs.Passing.{first, second, passes_at}
 
 lesser_assoc : (a b c : Verdict) → lesser (lesser a b) c ≡ lesser a (lesser b c)
 lesser_assoc False b c = refl
@@ -47,18 +47,18 @@ greater-false False = refl
 greater-false Open = refl
 greater-false True = refl
 
-module _ (unit : TimeUnit) (now : Moment) (moments : List Moment) where
-  pub verdict-all : (ps : List Prop) → verdict_in unit now moments (Props.All ps) ≡ least (map (verdict_in unit now moments) ps)
-  verdict-all ps = ap (verdict_in unit now moments) (sym (rolls-All ps)) ∙ fold-roll-Prop Verdict (verdict_step unit now moments) (P.All ps)
+module _ (unit : TimeUnit) (now : Moment) (before : List Moment) where
+  pub verdict-all : (ps : List Prop) → verdict_at unit now before (Props.All ps) ≡ least (map (verdict_at unit now before) ps)
+  verdict-all ps = ap (verdict_at unit now before) (sym (rolls-All ps)) ∙ fold-roll-Prop Verdict (verdict_step unit now before) (P.All ps)
 
-  pub verdict-any : (ps : List Prop) → verdict_in unit now moments (Props.Any ps) ≡ greatest (map (verdict_in unit now moments) ps)
-  verdict-any ps = ap (verdict_in unit now moments) (sym (rolls-Any ps)) ∙ fold-roll-Prop Verdict (verdict_step unit now moments) (P.Any ps)
+  pub verdict-any : (ps : List Prop) → verdict_at unit now before (Props.Any ps) ≡ greatest (map (verdict_at unit now before) ps)
+  verdict-any ps = ap (verdict_at unit now before) (sym (rolls-Any ps)) ∙ fold-roll-Prop Verdict (verdict_step unit now before) (P.Any ps)
 
-  pub verdict-within : (e : Ev) (from to : DateTerm) → verdict_in unit now moments (Props.Within e from to) ≡ verdict_step unit now moments (P.Within e from to)
-  verdict-within e from to = ap (verdict_in unit now moments) (sym (rolls-Within e from to)) ∙ fold-roll-Prop Verdict (verdict_step unit now moments) (P.Within e from to)
+  pub verdict-within : (e : Ev) (from to : DateTerm) → verdict_at unit now before (Props.Within e from to) ≡ verdict_step unit now before (P.Within e from to)
+  verdict-within e from to = ap (verdict_at unit now before) (sym (rolls-Within e from to)) ∙ fold-roll-Prop Verdict (verdict_step unit now before) (P.Within e from to)
 
-  pub verdict-occurs : (s : Situation) (from to : DateTerm) → verdict_in unit now moments (Props.Occurs s from to) ≡ verdict_step unit now moments (P.Occurs s from to)
-  verdict-occurs s from to = ap (verdict_in unit now moments) (sym (rolls-Occurs s from to)) ∙ fold-roll-Prop Verdict (verdict_step unit now moments) (P.Occurs s from to)
+  pub verdict-occurs : (s : Situation) (from to : DateTerm) → verdict_at unit now before (Props.Occurs s from to) ≡ verdict_step unit now before (P.Occurs s from to)
+  verdict-occurs s from to = ap (verdict_at unit now before) (sym (rolls-Occurs s from to)) ∙ fold-roll-Prop Verdict (verdict_step unit now before) (P.Occurs s from to)
 
 module _ (each : Prop → Verdict) (items : List Prop) (i : ℕ) (here : i < length items) (part : Prop) (is : part ≡ get_or items i part) where
   ahead : drop i items ≡ part ∷ drop (i + 1) items
@@ -90,13 +90,27 @@ module _ (deed : Deed) where
   sound_part_of_any p ps items i part h e is lt at =
       passes_at (is_sound_prop deed) items i part (ap (list_all (is_sound_prop deed)) is ∙ (sym (ap (is_sound_prop deed) e ∙ (sound-any ps ∙ list_all-map (λ b. b) (is_sound_prop deed) ps)) ∙ h)) lt at
 
-  -- of a proposition with two dates, the second is sound
+  -- both dates of a sound proposition with two dates are sound
+  within_is : (e : Ev) (from to : DateTerm) → is_sound_prop deed (Props.Within e from to) ≡ ((is_sound_event deed e && is_sound_date deed from) && is_sound_date deed to)
+  within_is e from to = ap (is_sound_prop deed) (sym (rolls-Within e from to)) ∙ fold-roll-Prop Bool (is_sound_step deed) (P.Within e from to)
+
+  pub sound_start_of_within : (e : Ev) (from to : DateTerm) → is_sound_prop deed (Props.Within e from to) ≡ true → is_sound_date deed from ≡ true
+  sound_start_of_within e from to h =
+      second (is_sound_event deed e) (is_sound_date deed from)
+      (first (is_sound_event deed e && is_sound_date deed from) (is_sound_date deed to) (sym (within_is e from to) ∙ h))
+
   pub sound_end_of_within : (e : Ev) (from to : DateTerm) → is_sound_prop deed (Props.Within e from to) ≡ true → is_sound_date deed to ≡ true
   sound_end_of_within e from to h =
-      second (is_sound_event deed e && is_sound_date deed from) (is_sound_date deed to)
-      (sym (ap (is_sound_prop deed) (sym (rolls-Within e from to)) ∙ fold-roll-Prop Bool (is_sound_step deed) (P.Within e from to)) ∙ h)
+      second (is_sound_event deed e && is_sound_date deed from) (is_sound_date deed to) (sym (within_is e from to) ∙ h)
+
+  occurs_is : (s : Situation) (from to : DateTerm) → is_sound_prop deed (Props.Occurs s from to) ≡ ((is_sound_situation deed s && is_sound_date deed from) && is_sound_date deed to)
+  occurs_is s from to = ap (is_sound_prop deed) (sym (rolls-Occurs s from to)) ∙ fold-roll-Prop Bool (is_sound_step deed) (P.Occurs s from to)
+
+  pub sound_start_of_occurs : (s : Situation) (from to : DateTerm) → is_sound_prop deed (Props.Occurs s from to) ≡ true → is_sound_date deed from ≡ true
+  sound_start_of_occurs s from to h =
+      second (is_sound_situation deed s) (is_sound_date deed from)
+      (first (is_sound_situation deed s && is_sound_date deed from) (is_sound_date deed to) (sym (occurs_is s from to) ∙ h))
 
   pub sound_end_of_occurs : (s : Situation) (from to : DateTerm) → is_sound_prop deed (Props.Occurs s from to) ≡ true → is_sound_date deed to ≡ true
   sound_end_of_occurs s from to h =
-      second (is_sound_situation deed s && is_sound_date deed from) (is_sound_date deed to)
-      (sym (ap (is_sound_prop deed) (sym (rolls-Occurs s from to)) ∙ fold-roll-Prop Bool (is_sound_step deed) (P.Occurs s from to)) ∙ h)
+      second (is_sound_situation deed s && is_sound_date deed from) (is_sound_date deed to) (sym (occurs_is s from to) ∙ h)

@@ -1,3 +1,2 @@
-pub mod Days
-pub mod Ready
+pub mod Machine
 pub mod Standing

@@ -1,12 +1,14 @@
-ghost use Rattle.std.specs.Prelude.{◌≡◌, ◌&&◌, ◌||◌, ◌<◌, ◌^◌, not, length};
+ghost use Rattle.std.specs.Prelude.{◌≡◌, ◌&&◌, ◌||◌, not};
 ghost use Rattle.sy_core.specs.States.{same_state};
-ghost use Rattle.sy_core.specs.Conditions.{is_awaited, is_settled, is_remedy, next_state, remedied_from, all_settled_from, any_begun_from, is_complete};
-ghost use Rattle.sy_axioms.specs.Days.{moment_of};
+ghost use Rattle.sy_core.specs.Conditions.{is_awaited, is_settled, is_remedy, next_state, is_remedied, all_settled, any_begun, is_complete};
+ghost use Rattle.sy_axioms.specs.Machine.KeptMoments.{moment_of};
+ghost use Rattle.sy_axioms.specs.Machine.Presents.{moment_now};
 
-use crate::day::Day;
+use crate::moment::Moment;
+use crate::present::Present;
 use crate::remedy::is_remedy;
 use crate::states::next_state;
-use sy_core::{Deed, Form, Position, StateOf, Target, is_same_state};
+use sy_core::{Form, Position, StateOf, Target, is_same_state};
 
 /// The contract's completion waits for positions of the form.
 fn is_awaited(form: Form) -> bool
@@ -15,7 +17,8 @@ fn is_awaited(form: Form) -> bool
     matches!(form, Form::Obligation)
 }
 
-/// An obligation in this state is settled: not begun, kept, discharged, or broken and remedied.
+/// An obligation in this state is settled: not begun, fulfilled, discharged, or violated and
+/// remedied.
 fn is_settled(state: StateOf, remedied: bool) -> bool
     ensures { result ≡ is_settled state remedied }
 {
@@ -26,24 +29,23 @@ fn is_settled(state: StateOf, remedied: bool) -> bool
     }
 }
 
-/// The position is a remedy of the broken one, and is kept after the day.
-fn remedies(now: &Day, number: u32, position: &Position, broken: Target) -> bool
+/// The position is a remedy of the violated obligation, and is fulfilled after the point.
+fn remedies(now: &Moment, number: u32, position: &Position, violated: Target) -> bool
     ensures { result
-        ≡ (is_remedy broken position.now
+        ≡ (is_remedy violated position.now
         && same_state (next_state (moment_of now.now) number position.now) StateOf.Fulfillment) }
 {
-    is_remedy(broken, position)
+    is_remedy(violated, position)
         && is_same_state(next_state(now, number, position), StateOf::Fulfillment)
 }
 
-/// Some remedy of the broken position is kept after the day.
-fn is_remedied(deed: &Deed, now: &Day, broken: Target) -> bool
-    requires { length deed.now.positions < 2 ^ 32 }
-    ensures { result ≡ remedied_from (moment_of now.now) broken 0 deed.now.positions }
+/// Some remedy of the violated obligation is fulfilled after the point.
+fn is_remedied(present: &Present, violated: Target) -> bool
+    ensures { result ≡ is_remedied present.now.deed.now (moment_now present.now) violated }
 {
     let mut number = 0;
-    for position in deed.positions.items() {
-        if remedies(now, number, position, broken) {
+    for position in present.deed.positions.items() {
+        if remedies(present.moment, number, position, violated) {
             return true;
         }
         number += 1;
@@ -52,29 +54,26 @@ fn is_remedied(deed: &Deed, now: &Day, broken: Target) -> bool
 }
 
 /// The contract's completion doesn't wait for the position any more.
-fn is_done(deed: &Deed, now: &Day, number: u32, position: &Position) -> bool
-    requires { length deed.now.positions < 2 ^ 32 }
+fn is_done(present: &Present, number: u32, position: &Position) -> bool
     ensures { result
         ≡ (not (is_awaited position.now.form)
-        || is_settled (next_state (moment_of now.now) number position.now)
-        (remedied_from (moment_of now.now) (Target.Position number) 0 deed.now.positions)) }
+        || is_settled (next_state (moment_now present.now) number position.now)
+        (is_remedied present.now.deed.now (moment_now present.now) (Target.Position number))) }
 {
     !is_awaited(position.form)
         || is_settled(
-            next_state(now, number, position),
-            is_remedied(deed, now, Target::Position(number)),
+            next_state(present.moment, number, position),
+            is_remedied(present, Target::Position(number)),
         )
 }
 
-/// Each awaited obligation is settled after the day.
-fn all_settled(deed: &Deed, now: &Day) -> bool
-    requires { length deed.now.positions < 2 ^ 32 }
-    ensures { result
-        ≡ all_settled_from (moment_of now.now) deed.now.positions 0 deed.now.positions }
+/// Each awaited obligation is settled after the point.
+fn all_settled(present: &Present) -> bool
+    ensures { result ≡ all_settled present.now.deed.now (moment_now present.now) }
 {
     let mut number = 0;
-    for position in deed.positions.items() {
-        if !is_done(deed, now, number, position) {
+    for position in present.deed.positions.items() {
+        if !is_done(present, number, position) {
             return false;
         }
         number += 1;
@@ -82,8 +81,8 @@ fn all_settled(deed: &Deed, now: &Day) -> bool
     true
 }
 
-/// The position is an awaited obligation that has begun after the day.
-fn has_begun(now: &Day, number: u32, position: &Position) -> bool
+/// The position is an awaited obligation that has begun after the point.
+fn has_begun(now: &Moment, number: u32, position: &Position) -> bool
     ensures { result
         ≡ (is_awaited position.now.form
         && not (same_state (next_state (moment_of now.now) number position.now) StateOf.Null)) }
@@ -91,14 +90,13 @@ fn has_begun(now: &Day, number: u32, position: &Position) -> bool
     is_awaited(position.form) && !is_same_state(next_state(now, number, position), StateOf::Null)
 }
 
-/// Some awaited obligation has begun after the day.
-fn any_begun(deed: &Deed, now: &Day) -> bool
-    requires { length deed.now.positions < 2 ^ 32 }
-    ensures { result ≡ any_begun_from (moment_of now.now) 0 deed.now.positions }
+/// Some awaited obligation has begun after the point.
+fn any_begun(present: &Present) -> bool
+    ensures { result ≡ any_begun present.now.deed.now (moment_now present.now) }
 {
     let mut number = 0;
-    for position in deed.positions.items() {
-        if has_begun(now, number, position) {
+    for position in present.deed.positions.items() {
+        if has_begun(present.moment, number, position) {
             return true;
         }
         number += 1;
@@ -106,10 +104,10 @@ fn any_begun(deed: &Deed, now: &Day) -> bool
     false
 }
 
-/// Every awaited obligation is settled after the day, and some awaited obligation has begun.
-pub(crate) fn is_complete(deed: &Deed, now: &Day) -> bool
-    requires { length deed.now.positions < 2 ^ 32 }
-    ensures { result ≡ is_complete deed.now (moment_of now.now) }
+/// The contract comes to its good end after the point: every awaited obligation is settled, and some
+/// awaited obligation has begun.
+pub(crate) fn is_complete(present: &Present) -> bool
+    ensures { result ≡ is_complete present.now.deed.now (moment_now present.now) }
 {
-    all_settled(deed, now) && any_begun(deed, now)
+    all_settled(present) && any_begun(present)
 }

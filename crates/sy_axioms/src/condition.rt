@@ -1,28 +1,32 @@
-ghost use Rattle.std.specs.Prelude.{◌≡◌, ◌==◌, ◌&&◌, ◌<◌, ◌^◌, length, IsTrue};
+ghost use Rattle.std.specs.Prelude.{◌≡◌, ◌==◌, ◌&&◌, IsTrue};
 ghost use Rattle.sy_core.specs.Propositions.{is_true, is_false};
-ghost use Rattle.sy_core.specs.Conditions.{verb_number, is_act, acts_on_contract, is_power, is_obligation, survives, duty_is, happened, was, exerted_from, live, alive, in_force, awaits, stays_due, by, contract_fires, position_fires};
+ghost use Rattle.sy_core.specs.Conditions.{verb_number, is_act, acts_on_contract, is_power, is_obligation, survives, happened, was, live, alive, in_force, is_created, remains_in_force, duty_verdict, by};
 ghost use Rattle.sy_core.specs.Soundness.{is_sound_goal, is_sound_position};
-ghost use Rattle.sy_axioms.specs.Days.{moment_of, moments_to};
-ghost use Rattle.sy_axioms.specs.Ready.{IsReady};
+ghost use Rattle.sy_axioms.specs.Machine.KeptMoments.{moment_of};
+ghost use Rattle.sy_axioms.specs.Machine.Presents.{moment_now, moments_before, contract_fires_now, fires_now};
 
 use crate::completion::is_complete;
-use crate::day::Day;
+use crate::moment::Moment;
+use crate::present::Present;
 use crate::remedy::{has_holds, is_same_target};
 use crate::verdict::verdict;
-use sy_core::{Deed, Form, Goal, Kind, Position, StateOf, Target, Verb, Verdict, is_same_state};
+use sy_core::{Form, Goal, Kind, Position, StateOf, Target, Verb, Verdict, is_same_state};
 
+/// The form is that of a power.
 fn is_power(form: Form) -> bool
     ensures { result ≡ is_power form }
 {
     matches!(form, Form::Power)
 }
 
+/// The form is that of an obligation, surviving or not.
 pub(crate) fn is_obligation(form: Form) -> bool
     ensures { result ≡ is_obligation form }
 {
     !matches!(form, Form::Power)
 }
 
+/// The form is that of a surviving obligation.
 fn survives(form: Form) -> bool
     ensures { result ≡ survives form }
 {
@@ -57,6 +61,7 @@ fn is_act(verb: Verb, target: Target, goal: &Goal) -> bool
     }
 }
 
+/// The goal is an act on the contract.
 fn acts_on_contract(goal: &Goal) -> bool
     ensures { result ≡ acts_on_contract goal.now }
 {
@@ -66,15 +71,15 @@ fn acts_on_contract(goal: &Goal) -> bool
     }
 }
 
-/// The target was in the state at the start of the day.
-fn was(now: &Day, target: Target, state: StateOf) -> bool
+/// The target was in the state at the start of the point.
+fn was(now: &Moment, target: Target, state: StateOf) -> bool
     ensures { result ≡ was (moment_of now.now) target state }
 {
     is_same_state(now.state(target), state)
 }
 
 /// The position does this to that target, and is exerted.
-fn performs(now: &Day, number: u32, position: &Position, verb: Verb, target: Target) -> bool
+fn performs(now: &Moment, number: u32, position: &Position, verb: Verb, target: Target) -> bool
     ensures { result
         ≡ (is_act verb target position.now.goal
         && happened (moment_of now.now) Kind.Exerted (Target.Position number)) }
@@ -83,13 +88,12 @@ fn performs(now: &Day, number: u32, position: &Position, verb: Verb, target: Tar
 }
 
 /// Some power that does this to that target is exerted.
-fn by(deed: &Deed, now: &Day, verb: Verb, target: Target) -> bool
-    requires { length deed.now.positions < 2 ^ 32 }
-    ensures { result ≡ by deed.now (moment_of now.now) verb target }
+fn by(present: &Present, verb: Verb, target: Target) -> bool
+    ensures { result ≡ by present.now.deed.now (moment_now present.now) verb target }
 {
     let mut number = 0;
-    for position in deed.positions.items() {
-        if performs(now, number, position, verb, target) {
+    for position in present.deed.positions.items() {
+        if performs(present.moment, number, position, verb, target) {
             return true;
         }
         number += 1;
@@ -98,14 +102,14 @@ fn by(deed: &Deed, now: &Day, verb: Verb, target: Target) -> bool
 }
 
 /// The contract is in effect, or the form doesn't heed it.
-fn live(now: &Day, form: Form) -> bool
+fn live(now: &Moment, form: Form) -> bool
     ensures { result ≡ live (moment_of now.now) form }
 {
     survives(form) || was(now, Target::Contract, StateOf::InEffect)
 }
 
 /// The position was created and hasn't come to its end, or is created here.
-fn alive(now: &Day, target: Target) -> bool
+fn alive(now: &Moment, target: Target) -> bool
     ensures { result ≡ alive (moment_of now.now) target }
 {
     was(now, target, StateOf::Create)
@@ -115,7 +119,7 @@ fn alive(now: &Day, target: Target) -> bool
 }
 
 /// The position was in effect, or comes into effect here.
-fn in_force(now: &Day, target: Target) -> bool
+fn in_force(now: &Moment, target: Target) -> bool
     ensures { result ≡ in_force (moment_of now.now) target }
 {
     was(now, target, StateOf::InEffect)
@@ -124,15 +128,15 @@ fn in_force(now: &Day, target: Target) -> bool
 }
 
 /// The position was created and waits for its antecedent, or is created here.
-fn awaits(now: &Day, target: Target) -> bool
-    ensures { result ≡ awaits (moment_of now.now) target }
+fn is_created(now: &Moment, target: Target) -> bool
+    ensures { result ≡ is_created (moment_of now.now) target }
 {
     was(now, target, StateOf::Create) || now.happens(Kind::Triggered, target)
 }
 
 /// The duty is in force, and nothing here suspends or ends it.
-fn stays_due(now: &Day, target: Target, form: Form) -> bool
-    ensures { result ≡ stays_due (moment_of now.now) target form }
+fn remains_in_force(now: &Moment, target: Target, form: Form) -> bool
+    ensures { result ≡ remains_in_force (moment_of now.now) target form }
 {
     live(now, form)
         && in_force(now, target)
@@ -141,46 +145,58 @@ fn stays_due(now: &Day, target: Target, form: Form) -> bool
         && !now.happens(Kind::Terminated, target)
 }
 
-// The conditions of the contract's events, a function each.
-
-pub(crate) fn contract_resumed(deed: &Deed, now: &Day) -> bool
-    requires { length deed.now.positions < 2 ^ 32 }
-    ensures { result ≡ contract_fires deed.now (moment_of now.now) Kind.Resumed }
+/// The verdict of what a position demands; a power demands nothing, so that it stays Open.
+fn duty_verdict(present: &Present, form: Form, goal: &Goal) -> Verdict
+    requires { IsTrue (is_sound_goal present.now.deed.now form goal.now) }
+    ensures { result
+        ≡ duty_verdict present.now.deed.now.unit (moment_now present.now) (moments_before present.now) goal.now }
 {
-    was(now, Target::Contract, StateOf::Suspension)
-        && by(deed, now, Verb::Resumes, Target::Contract)
+    match goal {
+        Goal::Duty(consequent) => verdict(present, consequent),
+        Goal::Act(_) => Verdict::Open,
+    }
 }
 
-pub(crate) fn contract_suspended(deed: &Deed, now: &Day) -> bool
-    requires { length deed.now.positions < 2 ^ 32 }
-    ensures { result ≡ contract_fires deed.now (moment_of now.now) Kind.Suspended }
+/// A suspended contract is resumed where a power that resumes it is exerted.
+pub(crate) fn contract_resumed(present: &Present) -> bool
+    ensures { result ≡ contract_fires_now present.now Kind.Resumed }
 {
-    was(now, Target::Contract, StateOf::InEffect) && by(deed, now, Verb::Suspends, Target::Contract)
+    was(present.moment, Target::Contract, StateOf::Suspension)
+        && by(present, Verb::Resumes, Target::Contract)
 }
 
-pub(crate) fn contract_terminated(deed: &Deed, now: &Day) -> bool
-    requires { length deed.now.positions < 2 ^ 32 }
-    ensures { result ≡ contract_fires deed.now (moment_of now.now) Kind.Terminated }
+/// A contract in effect is suspended where a power that suspends it is exerted.
+pub(crate) fn contract_suspended(present: &Present) -> bool
+    ensures { result ≡ contract_fires_now present.now Kind.Suspended }
 {
-    by(deed, now, Verb::Terminates, Target::Contract)
+    was(present.moment, Target::Contract, StateOf::InEffect)
+        && by(present, Verb::Suspends, Target::Contract)
 }
 
-pub(crate) fn contract_completed(deed: &Deed, now: &Day) -> bool
-    requires { length deed.now.positions < 2 ^ 32 }
-    ensures { result ≡ contract_fires deed.now (moment_of now.now) Kind.Completed }
+/// The contract is terminated where a power that terminates it is exerted.
+pub(crate) fn contract_terminated(present: &Present) -> bool
+    ensures { result ≡ contract_fires_now present.now Kind.Terminated }
 {
-    was(now, Target::Contract, StateOf::InEffect)
-        && !now.happens(Kind::Suspended, Target::Contract)
-        && !now.happens(Kind::Terminated, Target::Contract)
-        && is_complete(deed, now)
+    by(present, Verb::Terminates, Target::Contract)
 }
 
-// The conditions of a position's events, a function each.
-
-pub(crate) fn exerted(now: &Day, number: u32, position: &Position) -> bool
-    ensures { (deed : _) (moments : _) → result
-        ≡ position_fires deed (moment_of now.now) moments number position.now Kind.Exerted }
+/// A contract in effect is completed where nothing suspends or terminates it, every obligation that
+/// it waits for is settled after the point, and one of them has begun.
+pub(crate) fn contract_completed(present: &Present) -> bool
+    ensures { result ≡ contract_fires_now present.now Kind.Completed }
 {
+    was(present.moment, Target::Contract, StateOf::InEffect)
+        && !present.moment.happens(Kind::Suspended, Target::Contract)
+        && !present.moment.happens(Kind::Terminated, Target::Contract)
+        && is_complete(present)
+}
+
+/// A power in effect is exerted where the narrative exerts it and the contract is in effect. Under a
+/// suspended contract only a power over the contract itself can be exerted.
+pub(crate) fn exerted(present: &Present, number: u32, position: &Position) -> bool
+    ensures { result ≡ fires_now present.now number position.now Kind.Exerted }
+{
+    let now = present.moment;
     is_power(position.form)
         && now.asks(number)
         && was(now, Target::Position(number), StateOf::InEffect)
@@ -189,162 +205,97 @@ pub(crate) fn exerted(now: &Day, number: u32, position: &Position) -> bool
                 && acts_on_contract(&position.goal)))
 }
 
-pub(crate) fn triggered(
-    deed: &Deed,
-    now: &Day,
-    before: &[Day],
-    number: u32,
-    position: &Position,
-) -> bool
-    requires ready { IsReady deed.now before.now now.now }
-    requires sound { IsTrue (is_sound_position deed.now position.now) }
-    ensures { result
-        ≡ position_fires deed.now (moment_of now.now) (moments_to before.now now.now) number
-        position.now Kind.Triggered }
+/// A position that isn't there yet is triggered where its trigger is True, or a power triggers it.
+pub(crate) fn triggered(present: &Present, number: u32, position: &Position) -> bool
+    requires { IsTrue (is_sound_position present.now.deed.now position.now) }
+    ensures { result ≡ fires_now present.now number position.now Kind.Triggered }
 {
     let target = Target::Position(number);
-    live(now, position.form)
-        && was(now, target, StateOf::Null)
-        && (is_true(verdict(deed, now, before, &position.trigger))
-            || by(deed, now, Verb::Triggers, target))
+    live(present.moment, position.form)
+        && was(present.moment, target, StateOf::Null)
+        && (is_true(verdict(present, &position.trigger)) || by(present, Verb::Triggers, target))
 }
 
-pub(crate) fn activated(
-    deed: &Deed,
-    now: &Day,
-    before: &[Day],
-    number: u32,
-    position: &Position,
-) -> bool
-    requires ready { IsReady deed.now before.now now.now }
-    requires sound { IsTrue (is_sound_position deed.now position.now) }
-    ensures { result
-        ≡ position_fires deed.now (moment_of now.now) (moments_to before.now now.now) number
-        position.now Kind.Activated }
+/// A created position is activated where its antecedent is True.
+pub(crate) fn activated(present: &Present, number: u32, position: &Position) -> bool
+    requires { IsTrue (is_sound_position present.now.deed.now position.now) }
+    ensures { result ≡ fires_now present.now number position.now Kind.Activated }
 {
-    live(now, position.form)
-        && awaits(now, Target::Position(number))
-        && is_true(verdict(deed, now, before, &position.antecedent))
+    live(present.moment, position.form)
+        && is_created(present.moment, Target::Position(number))
+        && is_true(verdict(present, &position.antecedent))
 }
 
-pub(crate) fn resumed(deed: &Deed, now: &Day, number: u32) -> bool
-    requires { length deed.now.positions < 2 ^ 32 }
-    ensures { (moments : _) (p : _) → result
-        ≡ position_fires deed.now (moment_of now.now) moments number p Kind.Resumed }
+/// A suspended position is resumed where a power that resumes it is exerted.
+pub(crate) fn resumed(present: &Present, number: u32) -> bool
+    ensures { (position : _) → result ≡ fires_now present.now number position Kind.Resumed }
 {
     let target = Target::Position(number);
-    was(now, target, StateOf::Suspension) && by(deed, now, Verb::Resumes, target)
+    was(present.moment, target, StateOf::Suspension) && by(present, Verb::Resumes, target)
 }
 
-pub(crate) fn suspended(deed: &Deed, now: &Day, number: u32) -> bool
-    requires { length deed.now.positions < 2 ^ 32 }
-    ensures { (moments : _) (p : _) → result
-        ≡ position_fires deed.now (moment_of now.now) moments number p Kind.Suspended }
+/// A position in force is suspended where a power that suspends it is exerted, and it is not a power
+/// that is exerted here itself.
+pub(crate) fn suspended(present: &Present, number: u32) -> bool
+    ensures { (position : _) → result ≡ fires_now present.now number position Kind.Suspended }
 {
     let target = Target::Position(number);
-    in_force(now, target)
-        && by(deed, now, Verb::Suspends, target)
-        && !now.happens(Kind::Exerted, target)
+    in_force(present.moment, target)
+        && by(present, Verb::Suspends, target)
+        && !present.moment.happens(Kind::Exerted, target)
 }
 
-fn duty_is_true(deed: &Deed, now: &Day, before: &[Day], form: Form, goal: &Goal) -> bool
-    requires ready { IsReady deed.now before.now now.now }
-    requires sound { IsTrue (is_sound_goal deed.now form goal.now) }
-    ensures { result
-        ≡ duty_is is_true deed.now.unit (moment_of now.now) (moments_to before.now now.now)
-        goal.now }
-{
-    match goal {
-        Goal::Duty(consequent) => is_true(verdict(deed, now, before, consequent)),
-        Goal::Act(_) => false,
-    }
-}
-
-fn duty_is_false(deed: &Deed, now: &Day, before: &[Day], form: Form, goal: &Goal) -> bool
-    requires ready { IsReady deed.now before.now now.now }
-    requires sound { IsTrue (is_sound_goal deed.now form goal.now) }
-    ensures { result
-        ≡ duty_is is_false deed.now.unit (moment_of now.now) (moments_to before.now now.now)
-        goal.now }
-{
-    match goal {
-        Goal::Duty(consequent) => is_false(verdict(deed, now, before, consequent)),
-        Goal::Act(_) => false,
-    }
-}
-
-pub(crate) fn fulfilled(
-    deed: &Deed,
-    now: &Day,
-    before: &[Day],
-    number: u32,
-    position: &Position,
-) -> bool
-    requires ready { IsReady deed.now before.now now.now }
-    requires sound { IsTrue (is_sound_position deed.now position.now) }
-    ensures { result
-        ≡ position_fires deed.now (moment_of now.now) (moments_to before.now now.now) number
-        position.now Kind.Fulfilled }
+/// An obligation that remains in force is fulfilled where its consequent is True.
+pub(crate) fn fulfilled(present: &Present, number: u32, position: &Position) -> bool
+    requires { IsTrue (is_sound_position present.now.deed.now position.now) }
+    ensures { result ≡ fires_now present.now number position.now Kind.Fulfilled }
 {
     is_obligation(position.form)
-        && stays_due(now, Target::Position(number), position.form)
-        && duty_is_true(deed, now, before, position.form, &position.goal)
+        && remains_in_force(present.moment, Target::Position(number), position.form)
+        && is_true(duty_verdict(present, position.form, &position.goal))
 }
 
-pub(crate) fn violated(
-    deed: &Deed,
-    now: &Day,
-    before: &[Day],
-    number: u32,
-    position: &Position,
-) -> bool
-    requires ready { IsReady deed.now before.now now.now }
-    requires sound { IsTrue (is_sound_position deed.now position.now) }
-    ensures { result
-        ≡ position_fires deed.now (moment_of now.now) (moments_to before.now now.now) number
-        position.now Kind.Violated }
+/// An obligation that remains in force is violated where its consequent is False.
+pub(crate) fn violated(present: &Present, number: u32, position: &Position) -> bool
+    requires { IsTrue (is_sound_position present.now.deed.now position.now) }
+    ensures { result ≡ fires_now present.now number position.now Kind.Violated }
 {
     is_obligation(position.form)
-        && stays_due(now, Target::Position(number), position.form)
-        && duty_is_false(deed, now, before, position.form, &position.goal)
+        && remains_in_force(present.moment, Target::Position(number), position.form)
+        && is_false(duty_verdict(present, position.form, &position.goal))
 }
 
-pub(crate) fn expired(
-    deed: &Deed,
-    now: &Day,
-    before: &[Day],
-    number: u32,
-    position: &Position,
-) -> bool
-    requires ready { IsReady deed.now before.now now.now }
-    requires sound { IsTrue (is_sound_position deed.now position.now) }
-    ensures { result
-        ≡ position_fires deed.now (moment_of now.now) (moments_to before.now now.now) number
-        position.now Kind.Expired }
+/// A created position expires where its antecedent is False. An antecedent that asks for a state now
+/// can still come true, so that it never makes a position expire.
+pub(crate) fn expired(present: &Present, number: u32, position: &Position) -> bool
+    requires { IsTrue (is_sound_position present.now.deed.now position.now) }
+    ensures { result ≡ fires_now present.now number position.now Kind.Expired }
 {
-    live(now, position.form)
-        && awaits(now, Target::Position(number))
+    live(present.moment, position.form)
+        && is_created(present.moment, Target::Position(number))
         && !has_holds(&position.antecedent)
-        && is_false(verdict(deed, now, before, &position.antecedent))
+        && is_false(verdict(present, &position.antecedent))
 }
 
-pub(crate) fn discharged(deed: &Deed, now: &Day, number: u32, position: &Position) -> bool
-    requires { length deed.now.positions < 2 ^ 32 }
-    ensures { (moments : _) → result
-        ≡ position_fires deed.now (moment_of now.now) moments number position.now Kind.Discharged }
+/// An obligation that hasn't come to its end is discharged where a power that discharges it is
+/// exerted.
+pub(crate) fn discharged(present: &Present, number: u32, position: &Position) -> bool
+    ensures { result ≡ fires_now present.now number position.now Kind.Discharged }
 {
     let target = Target::Position(number);
-    is_obligation(position.form) && alive(now, target) && by(deed, now, Verb::Discharges, target)
+    is_obligation(position.form)
+        && alive(present.moment, target)
+        && by(present, Verb::Discharges, target)
 }
 
-pub(crate) fn terminated(deed: &Deed, now: &Day, number: u32, position: &Position) -> bool
-    requires { length deed.now.positions < 2 ^ 32 }
-    ensures { (moments : _) → result
-        ≡ position_fires deed.now (moment_of now.now) moments number position.now Kind.Terminated }
+/// A position that hasn't come to its end is terminated where a power is exerted that terminates it,
+/// or the contract with it, unless it survives the contract. A power that is exerted here is not.
+pub(crate) fn terminated(present: &Present, number: u32, position: &Position) -> bool
+    ensures { result ≡ fires_now present.now number position.now Kind.Terminated }
 {
     let target = Target::Position(number);
-    alive(now, target)
-        && (by(deed, now, Verb::Terminates, target)
-            || (!survives(position.form) && by(deed, now, Verb::Terminates, Target::Contract)))
-        && !now.happens(Kind::Exerted, target)
+    alive(present.moment, target)
+        && (by(present, Verb::Terminates, target)
+            || (!survives(position.form) && by(present, Verb::Terminates, Target::Contract)))
+        && !present.moment.happens(Kind::Exerted, target)
 }

@@ -4,12 +4,12 @@
 
 mod completion;
 mod condition;
-mod day;
+mod moment;
 mod plain;
+mod present;
 mod remedy;
 mod rounds;
 mod states;
-mod step;
 mod verdict;
 
 pub use plain::Plain;

@@ -1,4 +1,5 @@
-ghost use Rattle.std.specs.Prelude.{◌≡◌, ◌+ℤ◌, ℕ, suc, pos, false, Some, List, IfOk, slice_get, length, ◌<◌};
+ghost use Rattle.std.specs.Prelude.{◌≡◌, ◌+ℤ◌, ℕ, suc, pos, false, Some, List, map, IfOk, OnOk, OnErr, slice_get, length, ◌<◌};
+ghost use Rattle.sy_base.specs.Points.{IsDated};
 ghost use Rattle.sy_core.specs.declared.deed.Deed.{Deed};
 ghost use Rattle.sy_core.specs.declared.event.Ev.TheVariants.{Inner};
 ghost use Rattle.sy_core.specs.declared.happening.Happening.{Happening};
@@ -7,27 +8,31 @@ ghost use Rattle.sy_core.specs.Propositions.{verdict_at};
 ghost use Rattle.sy_core.specs.Chronicle.{first_state, chronicle, state_at, moment_at};
 ghost use Rattle.sy_core.specs.Soundness.{IsSound};
 ghost use Rattle.sy_core.specs.Tables.{states_of};
-ghost use Rattle.sy_axioms.specs.Standing.{StandsFor, IsMadeFor, next_point};
+ghost use Rattle.sy_axioms.specs.Standing.{StandsFor, HasExactly, HasDatedPoints, next_point};
 
-use crate::day::{Day, States};
+use crate::moment::{Events, Moment, States};
+use crate::present::Present;
+use crate::rounds::with_events;
+use crate::states::states_after;
 use crate::verdict::verdict;
 use std::alloc::Global;
 use sy_base::{List, Memory, Point};
-use sy_core::{Deed, Kind, StateOf, Target, Verdict};
+use sy_core::{Deed, Happening, Kind, StateOf, Target, Verdict, What};
 
 /// The plain evaluator of a deed. It keeps every point from start on, and the next point is worked
 /// out by searching through all of them.
 #[derive(Debug, Drop)]
 pub struct Plain {
-    pub(crate) alloc: Global,
+    alloc: Global,
     /// The points so far, from start on.
-    pub(crate) days: List<Day>,
+    moments: List<Moment>,
     /// The point that comes next.
-    pub(crate) point: Point,
+    point: Point,
     /// The states at the start of that point.
-    pub(crate) states: States,
+    states: States,
 }
 
+/// Every position is Null at start.
 fn first_states(alloc: Global, deed: &Deed) -> Result<List<StateOf>, Memory>
     ensures { IfOk result (λ states. states ≡ states_of first_state 0 deed.now.positions) }
 {
@@ -38,18 +43,29 @@ fn first_states(alloc: Global, deed: &Deed) -> Result<List<StateOf>, Memory>
     Ok(states)
 }
 
+/// What happened, of each happening.
+fn copy_happenings(alloc: Global, at: &[Happening]) -> Result<List<What>, Memory>
+    ensures { IfOk result (λ happenings. happenings ≡ map (λ h. h.what) at.now) }
+{
+    let mut happenings = List::new(alloc);
+    for happening in at {
+        happenings.push(happening.what.copy(alloc)?)?;
+    }
+    Ok(happenings)
+}
+
 impl Plain {
     /// An evaluator that stands at the deed's start.
     pub fn new(alloc: Global, deed: &Deed) -> Result<Plain, Memory>
         requires { IsSound deed.now }
         ensures start { IfOk result
             (λ plain. (narrative : List Happening) → StandsFor plain deed.now narrative 0) }
-        ensures made { IfOk result (λ plain. IsMadeFor plain deed.now) }
+        ensures made { IfOk result (λ plain. HasDatedPoints plain deed.now) }
         ensures point { IfOk result (λ plain. next_point plain ≡ deed.now.start) }
     {
         Ok(Plain {
             alloc,
-            days: List::new(alloc),
+            moments: List::new(alloc),
             point: deed.start,
             states: States {
                 contract: StateOf::InEffect,
@@ -96,9 +112,9 @@ impl Plain {
             → StandsFor self.now deed narrative (suc n)
             → result ≡ (moment_at deed narrative n).seen (Inner kind target) }
     {
-        match self.days.items().split_last() {
+        match self.moments.items().split_last() {
             None => false,
-            Some((day, _)) => day.happens(kind, target),
+            Some((moment, _)) => moment.happens(kind, target),
         }
     }
 
@@ -106,7 +122,7 @@ impl Plain {
     /// Before the first one it is Open.
     pub fn post(&self, deed: &Deed, number: u32) -> Verdict
         requires sound { IsSound deed.now }
-        requires made { IsMadeFor self.now deed.now }
+        requires made { HasDatedPoints self.now deed.now }
         requires post { number < length deed.now.posts }
         ensures none { (narrative : List Happening) → StandsFor self.now deed.now narrative 0
             → result ≡ Verdict.Open }
@@ -116,11 +132,44 @@ impl Plain {
             → result ≡ verdict_at deed.now.unit (moment_at deed.now narrative n)
             (chronicle deed.now narrative n) prop }
     {
-        match self.days.items().split_last() {
+        match self.moments.items().split_last() {
             None => Verdict::Open,
-            Some((now, before)) => {
-                verdict(deed, now, before, &deed.posts.items()[number as usize])
+            Some((moment, before)) => {
+                let present = Present {
+                    deed,
+                    moment,
+                    before,
+                };
+                verdict(&present, &deed.posts.items()[number as usize])
             }
         }
+    }
+
+    /// Evaluates the next point, which is a date of the deed's unit and at which exactly these
+    /// happenings stand. On want of memory all stays as it was.
+    pub fn step(&mut self, deed: &Deed, at: &[Happening]) -> Result<(), Memory>
+        requires sound { IsSound deed.now }
+        requires made { HasDatedPoints self.old deed.now }
+        requires dated { IsDated deed.now.unit (next_point self.old) }
+        ensures next { IfOk result
+            (λ _. (narrative : List Happening) (n : ℕ) → StandsFor self.old deed.now narrative n
+            → HasExactly narrative (deed.now.start +ℤ pos n) at.now
+            → StandsFor self.new deed.now narrative (suc n)) }
+        ensures made { HasDatedPoints self.new deed.now }
+        ensures point { OnOk result (next_point self.new ≡ next_point self.old +ℤ pos 1) }
+        ensures err { OnErr result (self.new ≡ self.old) }
+    {
+        let moment = Moment {
+            point: self.point,
+            happenings: copy_happenings(self.alloc, at)?,
+            states: self.states.copy(self.alloc)?,
+            events: Events::none(self.alloc),
+        };
+        let moment = with_events(self.alloc, deed, moment, self.moments.items())?;
+        let states = states_after(self.alloc, deed, &moment)?;
+        self.moments.push(moment)?;
+        self.states = states;
+        self.point += 1;
+        Ok(())
     }
 }

@@ -6,6 +6,7 @@ ghost use Rattle.sy_core.specs.Conditions.{is_remedy};
 use crate::condition::is_obligation;
 use sy_core::{Base, DateTerm, Ev, Kind, Position, Prop, Target};
 
+/// The targets are the same.
 pub(crate) fn is_same_target(a: Target, b: Target) -> bool
     ensures { result ≡ same_target a b }
 {
@@ -17,60 +18,60 @@ pub(crate) fn is_same_target(a: Target, b: Target) -> bool
 }
 
 /// The event is the violation of the target.
-fn is_violation(ev: &Ev, broken: Target) -> bool
-    ensures { result ≡ list_any (is_violation_of broken) (named_by_event ev.now) }
+fn is_violation(ev: &Ev, violated: Target) -> bool
+    ensures { result ≡ list_any (is_violation_of violated) (named_by_event ev.now) }
 {
     match ev {
-        Ev::Inner(Kind::Violated, target) => is_same_target(*target, broken),
+        Ev::Inner(Kind::Violated, target) => is_same_target(*target, violated),
         _ => false,
     }
 }
 
 /// The date term begins with the violation of the target.
-fn is_date_of_violation(term: &DateTerm, broken: Target) -> bool
-    ensures { result ≡ list_any (is_violation_of broken) (named_by_date term.now) }
+fn is_date_of_violation(term: &DateTerm, violated: Target) -> bool
+    ensures { result ≡ list_any (is_violation_of violated) (named_by_date term.now) }
 {
     match &term.base {
-        Base::First(ev) => is_violation(ev, broken),
+        Base::First(ev) => is_violation(ev, violated),
         Base::Fixed(_) => false,
     }
 }
 
 /// The proposition names the violation of the target, anywhere in it.
-fn names_violation(prop: &Prop, broken: Target) -> bool
-    ensures { result ≡ list_any (is_violation_of broken) (names_of prop.now) }
+fn names_violation(prop: &Prop, violated: Target) -> bool
+    ensures { result ≡ list_any (is_violation_of violated) (names_of prop.now) }
 {
     match prop {
-        Prop::Not(part) => names_violation(part.get(), broken),
+        Prop::Not(part) => names_violation(part.get(), violated),
         Prop::All(parts) | Prop::Any(parts) => {
             for part in parts.as_slice() {
-                if names_violation(part, broken) {
+                if names_violation(part, violated) {
                     return true;
                 }
             }
             false
         }
-        Prop::Happens(ev) => is_violation(ev, broken),
+        Prop::Happens(ev) => is_violation(ev, violated),
         Prop::Before(ev, date) | Prop::After(ev, date) => {
-            is_violation(ev, broken) || is_date_of_violation(date, broken)
+            is_violation(ev, violated) || is_date_of_violation(date, violated)
         }
         Prop::Within(ev, from, to) => {
-            is_violation(ev, broken)
-                || is_date_of_violation(from, broken)
-                || is_date_of_violation(to, broken)
+            is_violation(ev, violated)
+                || is_date_of_violation(from, violated)
+                || is_date_of_violation(to, violated)
         }
         Prop::Occurs(_, from, to) => {
-            is_date_of_violation(from, broken) || is_date_of_violation(to, broken)
+            is_date_of_violation(from, violated) || is_date_of_violation(to, violated)
         }
         Prop::Const(_) | Prop::Holds(_) => false,
     }
 }
 
-/// The position is a remedy of the broken one: an obligation whose trigger names its violation.
-pub(crate) fn is_remedy(broken: Target, position: &Position) -> bool
-    ensures { result ≡ is_remedy broken position.now }
+/// The position is a remedy of the violated obligation: an obligation whose trigger names its violation.
+pub(crate) fn is_remedy(violated: Target, position: &Position) -> bool
+    ensures { result ≡ is_remedy violated position.now }
 {
-    is_obligation(position.form) && names_violation(&position.trigger, broken)
+    is_obligation(position.form) && names_violation(&position.trigger, violated)
 }
 
 /// The proposition has a `Holds` somewhere in it.

@@ -1,13 +1,14 @@
 ghost use Rattle.std.specs.Prelude.{◌≡◌, ◌+◌, ◌<◌, ◌^◌, IfOk, if◌then◌else◌, length};
 ghost use Rattle.sy_core.specs.States.{expired_state, state_by, last_state, state_after, contract_after};
 ghost use Rattle.sy_core.specs.Conditions.{next_state};
-ghost use Rattle.sy_axioms.specs.Days.{has, moment_of, next_states, states_past};
+ghost use Rattle.sy_axioms.specs.Machine.KeptMoments.{has, moment_of, next_states, states_past};
 
-use crate::day::{Day, Fired, States};
+use crate::moment::{Fired, Moment, States};
 use std::alloc::Global;
 use sy_base::{List, Memory};
 use sy_core::{Deed, Form, Kind, Position, StateOf, Target, contract_kinds, kinds_of};
 
+/// An expired power has failed, and an expired obligation is discharged.
 fn expired_state(form: Form) -> StateOf
     ensures { result ≡ expired_state form }
 {
@@ -36,6 +37,7 @@ fn state_by(form: Form, kind: Kind) -> StateOf
     }
 }
 
+/// The state that the kind gives, where it happens, and else the state before.
 fn state_if(form: Form, kind: Kind, fired: Fired, state: StateOf) -> StateOf
     ensures { result ≡ (if has fired kind then state_by form kind else state) }
 {
@@ -57,8 +59,8 @@ fn last_state(form: Form, kinds: &[Kind], fired: Fired, state: StateOf) -> State
     last
 }
 
-/// The state of the position with this number after the day.
-pub(crate) fn next_state(now: &Day, number: u32, position: &Position) -> StateOf
+/// The state of the position with this number after the point.
+pub(crate) fn next_state(now: &Moment, number: u32, position: &Position) -> StateOf
     ensures { result ≡ next_state (moment_of now.now) number position.now }
 {
     let form = position.form;
@@ -66,7 +68,8 @@ pub(crate) fn next_state(now: &Day, number: u32, position: &Position) -> StateOf
     last_state(form, kinds_of(form), now.fired_at(number), state)
 }
 
-fn contract_after(now: &Day) -> StateOf
+/// The contract's state after the point.
+fn contract_after(now: &Moment) -> StateOf
     ensures { result ≡ contract_after (has now.now.events.contract) now.now.states.contract }
 {
     last_state(
@@ -77,7 +80,8 @@ fn contract_after(now: &Day) -> StateOf
     )
 }
 
-fn positions_after(alloc: Global, deed: &Deed, now: &Day) -> Result<List<StateOf>, Memory>
+/// The state of each position after the point.
+fn positions_after(alloc: Global, deed: &Deed, now: &Moment) -> Result<List<StateOf>, Memory>
     requires { length deed.now.positions < 2 ^ 32 }
     ensures { IfOk result
         (λ states. states ≡ next_states (moment_of now.now) 0 deed.now.positions) }
@@ -91,8 +95,8 @@ fn positions_after(alloc: Global, deed: &Deed, now: &Day) -> Result<List<StateOf
     Ok(states)
 }
 
-/// The states after the day.
-pub(crate) fn states_after(alloc: Global, deed: &Deed, now: &Day) -> Result<States, Memory>
+/// The states after the point.
+pub(crate) fn states_after(alloc: Global, deed: &Deed, now: &Moment) -> Result<States, Memory>
     requires { length deed.now.positions < 2 ^ 32 }
     ensures { IfOk result (λ states. states ≡ states_past deed.now now.now) }
 {

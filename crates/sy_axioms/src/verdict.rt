@@ -3,16 +3,16 @@ ghost use Rattle.std.specs.List.{list_all};
 ghost use Rattle.sy_base.specs.Points.{IsDated};
 ghost use Rattle.sy_core.specs.declared.proposition.Prop.TheOpen as PropOpen;
 ghost use Rattle.sy_core.specs.Moments.{seen_ever, seen_before, seen_after, seen_between, first_point, base_value, all_added, date_value};
-ghost use Rattle.sy_core.specs.Propositions.{opposite, lesser, greater, verdict_by, fails_within, verdict_step, verdict_in};
+ghost use Rattle.sy_core.specs.Propositions.{opposite, lesser, greater, verdict_by, fails_within};
 ghost use Rattle.sy_core.specs.Soundness.{is_duration_of, is_sound_date, is_sound_prop};
-ghost use Rattle.sy_axioms.specs.Days.{moment_of, moments_to};
-ghost use Rattle.sy_axioms.specs.Ready.{IsReady};
+ghost use Rattle.sy_axioms.specs.Machine.Presents.{moments_to_now, step_now, verdict_now};
 
-use crate::day::Day;
+use crate::present::Present;
 use sy_base::{Duration, Point, TimeUnit};
-use sy_core::{Base, DateTerm, Deed, Ev, Prop, Situation, Verdict};
+use sy_core::{Base, DateTerm, Ev, Prop, Situation, Verdict};
 use sy_time::add;
 
+/// Not.
 fn opposite(verdict: Verdict) -> Verdict
     ensures { result ≡ opposite verdict }
 {
@@ -23,6 +23,7 @@ fn opposite(verdict: Verdict) -> Verdict
     }
 }
 
+/// The lesser of two verdicts, where False is less than Open and Open than True.
 fn lesser(a: Verdict, b: Verdict) -> Verdict
     ensures { result ≡ lesser a b }
 {
@@ -34,6 +35,7 @@ fn lesser(a: Verdict, b: Verdict) -> Verdict
     }
 }
 
+/// The greater of two verdicts.
 fn greater(a: Verdict, b: Verdict) -> Verdict
     ensures { result ≡ greater a b }
 {
@@ -58,78 +60,89 @@ fn verdict_by(passes: bool, fails: bool) -> Verdict
     }
 }
 
-fn seen_ever(now: &Day, before: &[Day], ev: &Ev) -> bool
-    ensures { result ≡ seen_ever ev.now (moments_to before.now now.now) }
+/// The event happened at some point up to now.
+fn seen_ever(present: &Present, ev: &Ev) -> bool
+    ensures { result ≡ seen_ever ev.now (moments_to_now present.now) }
 {
-    for day in before {
-        if day.sees(ev) {
+    for moment in present.before {
+        if moment.sees(ev) {
             return true;
         }
     }
-    now.sees(ev)
+    present.moment.sees(ev)
 }
 
-fn seen_before(now: &Day, before: &[Day], ev: &Ev, to: Point) -> bool
-    ensures { result ≡ seen_before ev.now to (moments_to before.now now.now) }
+/// The event happened at some point before the date.
+fn seen_before(present: &Present, ev: &Ev, to: Point) -> bool
+    ensures { result ≡ seen_before ev.now to (moments_to_now present.now) }
 {
-    for day in before {
-        if day.sees_before(ev, to) {
+    for moment in present.before {
+        if moment.sees_before(ev, to) {
             return true;
         }
     }
-    now.sees_before(ev, to)
+    present.moment.sees_before(ev, to)
 }
 
-fn seen_after(now: &Day, before: &[Day], ev: &Ev, from: Point) -> bool
-    ensures { result ≡ seen_after ev.now from (moments_to before.now now.now) }
+/// The event happened at some point after the date.
+fn seen_after(present: &Present, ev: &Ev, from: Point) -> bool
+    ensures { result ≡ seen_after ev.now from (moments_to_now present.now) }
 {
-    for day in before {
-        if day.sees_after(ev, from) {
+    for moment in present.before {
+        if moment.sees_after(ev, from) {
             return true;
         }
     }
-    now.sees_after(ev, from)
+    present.moment.sees_after(ev, from)
 }
 
-fn seen_between(now: &Day, before: &[Day], ev: &Ev, from: Point, to: Point) -> bool
-    ensures { result ≡ seen_between ev.now from to (moments_to before.now now.now) }
+/// The event happened at some point from the one date on and before the other.
+fn seen_between(present: &Present, ev: &Ev, from: Point, to: Point) -> bool
+    ensures { result ≡ seen_between ev.now from to (moments_to_now present.now) }
 {
-    for day in before {
-        if day.sees_between(ev, from, to) {
+    for moment in present.before {
+        if moment.sees_between(ev, from, to) {
             return true;
         }
     }
-    now.sees_between(ev, from, to)
+    present.moment.sees_between(ev, from, to)
 }
 
-fn fails_within(now: &Day, before: &[Day], situation: Situation, from: Point, to: Point) -> bool
-    ensures { result ≡ fails_within situation from to (moments_to before.now now.now) }
+/// The situation fails at some point from the one date on and before the other.
+fn fails_within(present: &Present, situation: Situation, from: Point, to: Point) -> bool
+    ensures { result ≡ fails_within situation from to (moments_to_now present.now) }
 {
-    for day in before {
-        if day.fails_between(situation, from, to) {
+    for moment in present.before {
+        if moment.fails_between(situation, from, to) {
             return true;
         }
     }
-    now.fails_between(situation, from, to)
+    present.moment.fails_between(situation, from, to)
 }
 
-fn first_point(now: &Day, before: &[Day], ev: &Ev) -> Option<Point>
-    ensures { result ≡ first_point ev.now (moments_to before.now now.now) }
+/// The first point up to now at which the event happened.
+fn first_point(present: &Present, ev: &Ev) -> Option<Point>
+    ensures { result ≡ first_point ev.now (moments_to_now present.now) }
 {
-    for day in before {
-        if day.sees(ev) {
-            return Some(day.point);
+    for moment in present.before {
+        if moment.sees(ev) {
+            return Some(moment.point);
         }
     }
-    if now.sees(ev) { Some(now.point) } else { None }
+    if present.moment.sees(ev) {
+        Some(present.moment.point)
+    } else {
+        None
+    }
 }
 
-fn base_value(base: &Base, now: &Day, before: &[Day]) -> Option<Point>
-    ensures { result ≡ base_value base.now (moments_to before.now now.now) }
+/// The date that a date term begins with, where it has one.
+fn base_value(present: &Present, base: &Base) -> Option<Point>
+    ensures { result ≡ base_value base.now (moments_to_now present.now) }
 {
     match base {
         Base::Fixed(point) => Some(*point),
-        Base::First(ev) => first_point(now, before, ev),
+        Base::First(ev) => first_point(present, ev),
     }
 }
 
@@ -148,101 +161,78 @@ fn add_all(unit: TimeUnit, point: Point, durations: &[Duration]) -> Point
 }
 
 /// The value of a date term, where it has one.
-fn date_value(deed: &Deed, now: &Day, before: &[Day], term: &DateTerm) -> Option<Point>
-    requires ready { IsReady deed.now before.now now.now }
-    requires sound { IsTrue (is_sound_date deed.now term.now) }
-    ensures { result ≡ date_value deed.now.unit term.now (moments_to before.now now.now) }
+fn date_value(present: &Present, term: &DateTerm) -> Option<Point>
+    requires { IsTrue (is_sound_date present.now.deed.now term.now) }
+    ensures { result ≡ date_value present.now.deed.now.unit term.now (moments_to_now present.now) }
 {
-    let point = base_value(&term.base, now, before)?;
-    Some(add_all(deed.unit, point, term.plus.items()))
+    let point = base_value(present, &term.base)?;
+    Some(add_all(present.deed.unit, point, term.plus.items()))
 }
 
-fn within(
-    deed: &Deed,
-    now: &Day,
-    before: &[Day],
-    ev: &Ev,
-    from: &DateTerm,
-    to: &DateTerm,
-) -> Verdict
-    requires ready { IsReady deed.now before.now now.now }
-    requires from { IsTrue (is_sound_date deed.now from.now) }
-    requires to { IsTrue (is_sound_date deed.now to.now) }
-    ensures { result
-        ≡ verdict_step deed.now.unit (moment_of now.now) (moments_to before.now now.now)
-        (PropOpen.Within ev.now from.now to.now) }
+/// The verdict of an event's happening from the one date on and before the other.
+fn within(present: &Present, ev: &Ev, from: &DateTerm, to: &DateTerm) -> Verdict
+    requires from { IsTrue (is_sound_date present.now.deed.now from.now) }
+    requires to { IsTrue (is_sound_date present.now.deed.now to.now) }
+    ensures { result ≡ step_now present.now (PropOpen.Within ev.now from.now to.now) }
 {
-    let from = date_value(deed, now, before, from);
-    let to = date_value(deed, now, before, to);
-    match (from, to) {
+    match (date_value(present, from), date_value(present, to)) {
+        (Some(from), Some(to)) => verdict_by(
+            seen_between(present, ev, from, to),
+            to <= present.moment.point,
+        ),
+        _ => Verdict::Open,
+    }
+}
+
+/// The verdict of a situation's lasting from the one date on up to the other.
+fn occurs(present: &Present, situation: Situation, from: &DateTerm, to: &DateTerm) -> Verdict
+    requires from { IsTrue (is_sound_date present.now.deed.now from.now) }
+    requires to { IsTrue (is_sound_date present.now.deed.now to.now) }
+    ensures { result ≡ step_now present.now (PropOpen.Occurs situation from.now to.now) }
+{
+    match (date_value(present, from), date_value(present, to)) {
         (Some(from), Some(to)) => {
-            verdict_by(seen_between(now, before, ev, from, to), to <= now.point)
+            let fails = fails_within(present, situation, from, to);
+            verdict_by(to <= present.moment.point && !fails, fails)
         }
         _ => Verdict::Open,
     }
 }
 
-fn occurs(
-    deed: &Deed,
-    now: &Day,
-    before: &[Day],
-    situation: Situation,
-    from: &DateTerm,
-    to: &DateTerm,
-) -> Verdict
-    requires ready { IsReady deed.now before.now now.now }
-    requires from { IsTrue (is_sound_date deed.now from.now) }
-    requires to { IsTrue (is_sound_date deed.now to.now) }
-    ensures { result
-        ≡ verdict_step deed.now.unit (moment_of now.now) (moments_to before.now now.now)
-        (PropOpen.Occurs situation from.now to.now) }
+/// The verdict of a proposition now.
+pub(crate) fn verdict(present: &Present, prop: &Prop) -> Verdict
+    requires { IsTrue (is_sound_prop present.now.deed.now prop.now) }
+    ensures { result ≡ verdict_now present.now prop.now }
 {
-    let from = date_value(deed, now, before, from);
-    let to = date_value(deed, now, before, to);
-    match (from, to) {
-        (Some(from), Some(to)) => {
-            let fails = fails_within(now, before, situation, from, to);
-            verdict_by(to <= now.point && !fails, fails)
-        }
-        _ => Verdict::Open,
-    }
-}
-
-/// The verdict of a proposition now, after the days before.
-pub(crate) fn verdict(deed: &Deed, now: &Day, before: &[Day], prop: &Prop) -> Verdict
-    requires ready { IsReady deed.now before.now now.now }
-    requires sound { IsTrue (is_sound_prop deed.now prop.now) }
-    ensures { result
-        ≡ verdict_in deed.now.unit (moment_of now.now) (moments_to before.now now.now) prop.now }
-{
+    let now = present.moment;
     match prop {
         Prop::Const(truth) => verdict_by(*truth, !*truth),
-        Prop::Not(part) => opposite(verdict(deed, now, before, part.get())),
+        Prop::Not(part) => opposite(verdict(present, part.get())),
         Prop::All(parts) => {
             let mut least = Verdict::True;
             for part in parts.as_slice() {
-                least = lesser(least, verdict(deed, now, before, part));
+                least = lesser(least, verdict(present, part));
             }
             least
         }
         Prop::Any(parts) => {
             let mut greatest = Verdict::False;
             for part in parts.as_slice() {
-                greatest = greater(greatest, verdict(deed, now, before, part));
+                greatest = greater(greatest, verdict(present, part));
             }
             greatest
         }
-        Prop::Happens(ev) => verdict_by(seen_ever(now, before, ev), false),
-        Prop::Before(ev, to) => match date_value(deed, now, before, to) {
+        Prop::Happens(ev) => verdict_by(seen_ever(present, ev), false),
+        Prop::Before(ev, to) => match date_value(present, to) {
             None => Verdict::Open,
-            Some(to) => verdict_by(seen_before(now, before, ev, to), to <= now.point),
+            Some(to) => verdict_by(seen_before(present, ev, to), to <= now.point),
         },
-        Prop::After(ev, from) => match date_value(deed, now, before, from) {
+        Prop::After(ev, from) => match date_value(present, from) {
             None => Verdict::Open,
-            Some(from) => verdict_by(seen_after(now, before, ev, from), false),
+            Some(from) => verdict_by(seen_after(present, ev, from), false),
         },
-        Prop::Within(ev, from, to) => within(deed, now, before, ev, from, to),
-        Prop::Occurs(situation, from, to) => occurs(deed, now, before, *situation, from, to),
+        Prop::Within(ev, from, to) => within(present, ev, from, to),
+        Prop::Occurs(situation, from, to) => occurs(present, *situation, from, to),
         Prop::Holds(situation) => {
             let holds = now.holds(*situation);
             verdict_by(holds, !holds)

@@ -33,7 +33,7 @@ use Rattle.sy_core.specs.Moments.{Moment, first_point, base_value, all_added, da
 use Rattle.sy_core.specs.States.{same_state, kinds_of, state_by, last_state}
 use Rattle.sy_core.specs.Propositions.{opposite, lesser, greater, least, greatest, verdict_by, with_date, verdict_step, verdict_at, is_true, is_false, situation_holds}
 use Rattle.sy_core.specs.Mentions.{InternalEvent, events_at, named_by_event, named_by_base, named_by_date, names_step, names_of, names_of_duty, has_holds}
-use Rattle.sy_core.specs.Conditions.{is_obligation, survives, is_settled, duty_is, powers_to, remedies_of, awaited, events_of_position, was, live, next_state, by, is_remedied, contract_fires, position_fires, fires_of, fires}
+use Rattle.sy_core.specs.Conditions.{is_obligation, survives, is_settled, duty_verdict, powers_to, remedies_of, awaited, events_of_position, was, live, next_state, by, is_remedied, contract_fires, position_fires, fires_of, fires}
 use Rattle.sy_core.specs.Chronicle.{assuming}
 use Rattle.sy_core.specs.Dependence.{exertions, contract_ends, contract_reads, position_reads, reads_of, reads}
 
@@ -201,9 +201,9 @@ module _ (point : ℤ) (happenings : List What) (state : Target → StateOf) (be
         at true h = refl
         at false h = by_same Verbs.Terminates T.Contract h
 
-    duty_same : (test : Verdict → Bool) (goal : Goal) → AgreeOn s t (names_of_duty goal) → duty_is test deed.unit m before goal ≡ duty_is test deed.unit n before goal
-    duty_same test (G.Duty consequent) h = ap test (verdict_same deed.unit consequent h)
-    duty_same test (G.Act act) h = refl
+    duty_same : (goal : Goal) → AgreeOn s t (names_of_duty goal) → duty_verdict deed.unit m before goal ≡ duty_verdict deed.unit n before goal
+    duty_same (G.Duty consequent) h = verdict_same deed.unit consequent h
+    duty_same (G.Act act) h = refl
 
     -- one row of the contract each
     contract_same : (kind : Kind) → AgreeOn s t (contract_reads deed kind) → contract_fires deed m kind ≡ contract_fires deed n kind
@@ -231,11 +231,11 @@ module _ (point : ℤ) (happenings : List What) (state : Target → StateOf) (be
         let b = by_same Verbs.Suspends (T.Position i) h.1.1.1 in
         λ j. (was m (T.Position i) S.InEffect || h.0 j || h.1.0 j) && b j && not (h.1.1.0 j)
     position_same i p Fulfilled h =
-        let d = duty_same is_true p.goal h.1.1.1.1.1 in
-        λ j. is_obligation p.form && (live m p.form && (was m (T.Position i) S.InEffect || h.0 j || h.1.0 j) && not (h.1.1.0 j) && not (h.1.1.1.0 j) && not (h.1.1.1.1.0 j)) && d j
+        let d = duty_same p.goal h.1.1.1.1.1 in
+        λ j. is_obligation p.form && (live m p.form && (was m (T.Position i) S.InEffect || h.0 j || h.1.0 j) && not (h.1.1.0 j) && not (h.1.1.1.0 j) && not (h.1.1.1.1.0 j)) && is_true (d j)
     position_same i p Violated h =
-        let d = duty_same is_false p.goal h.1.1.1.1.1 in
-        λ j. is_obligation p.form && (live m p.form && (was m (T.Position i) S.InEffect || h.0 j || h.1.0 j) && not (h.1.1.0 j) && not (h.1.1.1.0 j) && not (h.1.1.1.1.0 j)) && d j
+        let d = duty_same p.goal h.1.1.1.1.1 in
+        λ j. is_obligation p.form && (live m p.form && (was m (T.Position i) S.InEffect || h.0 j || h.1.0 j) && not (h.1.1.0 j) && not (h.1.1.1.0 j) && not (h.1.1.1.1.0 j)) && is_false (d j)
     position_same i p Expired h =
         let v = verdict_same deed.unit p.antecedent h.1 in
         λ j. live m p.form && (was m (T.Position i) S.Create || h.0 j) && not (has_holds p.antecedent) && is_false (v j)

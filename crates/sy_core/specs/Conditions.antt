@@ -11,6 +11,7 @@ use Rattle.sy_core.specs.declared.event.Ev.TheVariants.{Inner}
 use Rattle.sy_core.specs.declared.state.StateOf.{StateOf}
 use Rattle.sy_core.specs.declared.state.StateOf.TheVariants as S
 use Rattle.sy_core.specs.declared.table.Verdict.{Verdict}
+use Rattle.sy_core.specs.declared.table.Verdict.TheVariants.{Open}
 use Rattle.sy_core.specs.declared.position.Form.{Form}
 use Rattle.sy_core.specs.declared.position.Form.TheVariants.{Obligation, Surviving, Power}
 use Rattle.sy_core.specs.declared.position.Verb.{Verb}
@@ -74,10 +75,10 @@ is_settled S.Discharge remedied = true
 is_settled S.Violation remedied = remedied
 is_settled _ remedied = false
 
--- the verdict of a position's consequent passes a test; an act has none
-abbrev pub duty_is : (Verdict → Bool) → TimeUnit → Moment → List Moment → Goal → Bool
-duty_is test unit now before (G.Duty consequent) = test (verdict_at unit now before consequent)
-duty_is test unit now before (G.Act act) = false
+-- the verdict of what a position demands; a power demands nothing, so that it stays Open
+abbrev pub duty_verdict : TimeUnit → Moment → List Moment → Goal → Verdict
+duty_verdict unit now before (G.Duty consequent) = verdict_at unit now before consequent
+duty_verdict unit now before (G.Act act) = Open
 
 module _ (deed : Deed) where
   -- the positions, each behind its number
@@ -175,9 +176,9 @@ module _ (deed : Deed) (now : Moment) where
     position_fires Suspended =
         in_force now (T.Position i) && by Verbs.Suspends (T.Position i) && not (happened now Exerted (T.Position i))
     position_fires Fulfilled =
-        is_obligation p.form && remains_in_force now (T.Position i) p.form && duty_is is_true deed.unit now before p.goal
+        is_obligation p.form && remains_in_force now (T.Position i) p.form && is_true (duty_verdict deed.unit now before p.goal)
     position_fires Violated =
-        is_obligation p.form && remains_in_force now (T.Position i) p.form && duty_is is_false deed.unit now before p.goal
+        is_obligation p.form && remains_in_force now (T.Position i) p.form && is_false (duty_verdict deed.unit now before p.goal)
     position_fires Expired =
         live now p.form && is_created now (T.Position i)
         && not (has_holds p.antecedent) && is_false (verdict_at deed.unit now before p.antecedent)

@@ -1,6 +1,6 @@
 ghost use Rattle.std.specs.Prelude.{◌≡◌, ◌<◌, ◌^◌, ◌≤ℤ◌, pos, length, IfOk};
 ghost use Rattle.sy_core.specs.Soundness.{IsSound};
-ghost use Rattle.sy_axioms.specs.Standing.{IsMadeFor};
+ghost use Rattle.sy_axioms.specs.Standing.{HasDatedPoints};
 
 use std::alloc::Global;
 use sy_axioms::Plain;
@@ -91,7 +91,7 @@ impl Report {
         requires sound { IsSound deed.now }
         requires unit { deed.now.unit ≡ TimeUnit.Day }
         requires date { date ≤ℤ pos 376199 }
-        ensures { IfOk result (λ report. IsMadeFor report.plain deed.now) }
+        ensures { IfOk result (λ report. HasDatedPoints report.plain deed.now) }
     {
         let mut plain = Plain::new(alloc, deed)?;
         let mut violations = Vec::new(alloc);

@@ -5,10 +5,10 @@ use Rattle.sy_axioms.proofs.remedy.+names_violation.Goals as goal
 
 pub returns-then-names_violation : goal.returns-then-names_violation
 returns-then-names_violation t c =
-    found_at (is_named c.args.broken) c.as_slice-part-items.result.now c.loop-part.part-index c.part-item.result _ c.loop-part-test.true c.part-item.is (sym c.if-names_violation.ensures) c.loop-part.invariant
-    ∙ (ap (list_any (is_named c.args.broken)) c.as_slice-part-items.ensures ∙ sym (is_named-parts c.args.broken c.args.prop.now c.in-All.parts c.in-All.is))
+    found_at (is_named c.args.violated) c.as_slice-part-items.result.now c.loop-part.part-index c.part-item.result _ c.loop-part-test.true c.part-item.is (sym c.if-names_violation.ensures) c.loop-part.invariant
+    ∙ (ap (list_any (is_named c.args.violated)) c.as_slice-part-items.ensures ∙ sym (is_named-parts c.args.violated c.args.prop.now c.in-All.parts c.in-All.is))
 
 pub returns-after-loop-part : goal.returns-after-loop-part
 returns-after-loop-part t c =
-    none_left (is_named c.args.broken) c.as_slice-part-items.result.now c.loop-part.part-index _ c.loop-part-test.false c.loop-part.invariant
-    ∙ (ap (list_any (is_named c.args.broken)) c.as_slice-part-items.ensures ∙ sym (is_named-parts c.args.broken c.args.prop.now c.in-All.parts c.in-All.is))
+    none_left (is_named c.args.violated) c.as_slice-part-items.result.now c.loop-part.part-index _ c.loop-part-test.false c.loop-part.invariant
+    ∙ (ap (list_any (is_named c.args.violated)) c.as_slice-part-items.ensures ∙ sym (is_named-parts c.args.violated c.args.prop.now c.in-All.parts c.in-All.is))

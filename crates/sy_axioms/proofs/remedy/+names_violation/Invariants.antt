@@ -5,4 +5,4 @@ use Rattle.sy_axioms.proofs.remedy.+names_violation.Given as goal
 
 abbrev pub invariant-loop-part : goal.invariant-loop-part
 invariant-loop-part l =
-    list_any (is_named l.broken) (drop l.part-index l.part-items) ≡ list_any (is_named l.broken) l.part-items
+    list_any (is_named l.violated) (drop l.part-index l.part-items) ≡ list_any (is_named l.violated) l.part-items

@@ -3,7 +3,7 @@ use Rattle.sy_core.specs.declared.kind.Kind.{Kind}
 use Rattle.sy_core.specs.declared.position.Form.{Form}
 use Rattle.sy_core.specs.declared.state.StateOf.{StateOf}
 use Rattle.sy_core.specs.States.{state_by, last_state}
-use Rattle.sy_axioms.specs.Days.{has}
+use Rattle.sy_axioms.specs.Machine.KeptMoments.{has}
 use Rattle.sy_axioms.proofs.states.last_state.Goals as goal
 
 goes_on : (form : Form) (ks : List Kind) (h : Kind → Bool) (i : ℕ) (d : Kind) (s whole next : StateOf) → i < length ks → last_state form (drop i ks) h s ≡ whole → next ≡ (if h (get_or ks i d) then state_by form (get_or ks i d) else s) → last_state form (drop (i + 1) ks) h next ≡ whole

@@ -1,6 +1,6 @@
 use Rattle.std.proofs.Common.{◌≡◌, drop}
 use Rattle.sy_core.specs.States.{last_state}
-use Rattle.sy_axioms.specs.Days.{has}
+use Rattle.sy_axioms.specs.Machine.KeptMoments.{has}
 use Rattle.sy_axioms.proofs.states.last_state.Given as goal
 
 abbrev pub invariant-loop-kind : goal.invariant-loop-kind

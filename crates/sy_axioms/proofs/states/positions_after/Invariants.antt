@@ -1,5 +1,5 @@
 use Rattle.std.proofs.Common.{◌≡◌, ◌++◌, drop}
-use Rattle.sy_axioms.specs.Days.{moment_of, next_states}
+use Rattle.sy_axioms.specs.Machine.KeptMoments.{moment_of, next_states}
 use Rattle.sy_axioms.proofs.states.positions_after.Given as goal
 
 abbrev pub invariant-loop-position : goal.invariant-loop-position

@@ -5,6 +5,6 @@ use Rattle.sy_axioms.proofs.verdict.date_value.Goals as goal
 
 pub add_all-requires-clause-dated : goal.add_all-requires-clause-dated
 add_all-requires-clause-dated c =
-    let unit = c.args.deed.now.unit in
-    let dated = beginning_is_dated c.args.deed.now c.args.before.now c.args.now.now c.requires.ready c.args.term.now c.in_ok-point.point c.requires.sound (sym c.in_ok-point.ensures) in
+    let unit = c.args.present.now.deed.now.unit in
+    let dated = beginning_is_dated c.args.present.now.deed.now c.args.present.now.before.now c.args.present.now.moment.now c.args.present.now.ready c.args.term.now c.in_ok-point.point c.requires (sym c.in_ok-point.ensures) in
     subst (IsDated unit) (sym (dated_is_passed unit c.in_ok-point.point dated)) dated

@@ -1,8 +1,10 @@
-use Rattle.std.proofs.Common.{◌≡◌, drop}
+use Rattle.std.proofs.Common.{◌≡◌, map, drop}
+use Rattle.sy_core.specs.Moments.{up_to}
 use Rattle.sy_core.specs.Propositions.{fails_within}
-use Rattle.sy_axioms.specs.Days.{moments_to}
+use Rattle.sy_axioms.specs.Machine.KeptMoments.{moment_of}
+use Rattle.sy_axioms.specs.Machine.Presents.{moment_now, moments_to_now}
 use Rattle.sy_axioms.proofs.verdict.fails_within.Given as goal
 
-abbrev pub invariant-loop-day : goal.invariant-loop-day
-invariant-loop-day l =
-    fails_within l.situation l.from l.to (moments_to (drop l.day-index l.before) l.now) ≡ fails_within l.situation l.from l.to (moments_to l.before l.now)
+abbrev pub invariant-loop-moment : goal.invariant-loop-moment
+invariant-loop-moment l =
+    fails_within l.situation l.from l.to (up_to (moment_now l.present) (map moment_of (drop l.moment-index l.present.before.now))) ≡ fails_within l.situation l.from l.to (moments_to_now l.present)

@@ -4,8 +4,8 @@ use Rattle.std.proofs.lemmas.List.Elements.{All-append}
 use Rattle.sy_base.specs.declared.time.TimeUnit.{TimeUnit}
 use Rattle.sy_base.specs.Points.{IsDated}
 use Rattle.sy_core.specs.Chronicle.{assuming, internal_events}
-use Rattle.sy_axioms.specs.declared.day.Day.{Day}
-use Rattle.sy_axioms.specs.Days.{moment_of, state_in}
+use Rattle.sy_axioms.specs.declared.moment.Moment.{Moment as KeptMoment}
+use Rattle.sy_axioms.specs.Machine.KeptMoments.{moment_of, state_in}
 use Rattle.sy_axioms.proofs.Dates.{dated_is_passed, next_is_passed}
 use Rattle.sy_axioms.proofs.GoesOn.{stands_on}
 use Rattle.sy_axioms.proofs.plain.Plain.step.Goals as goal
@@ -15,27 +15,27 @@ returns-clause-next c = λ narrative n stands exact.
     let deed = c.args.deed.now in
     let unit = deed.unit in
     let point = dated_is_passed unit c.args.self.now.point c.requires.dated in
-    stands_on deed narrative n c.args.self.now _ c.in_ok-day.day c.args.at.now
+    stands_on deed narrative n c.args.self.now _ c.in_ok-moment.moment c.args.at.now
     (record {
-      days = search rules;
+      moments = search rules;
       point = next_is_passed unit c.args.self.now.point c.requires.dated;
       moment =
-          c.in_ok-day.ensures.moment
-          ∙ (λ j. assuming (point j) (c.in_ok-copy_whats.ensures j) (state_in (c.in_ok-copy.ensures j)) (internal_events deed (point j) (c.in_ok-copy_whats.ensures j) (state_in (c.in_ok-copy.ensures j)) (map moment_of (c.items.ensures j))));
+          c.in_ok-moment.ensures.moment
+          ∙ (λ j. assuming (point j) (c.in_ok-copy_happenings.ensures j) (state_in (c.in_ok-copy.ensures j)) (internal_events deed (point j) (c.in_ok-copy_happenings.ensures j) (state_in (c.in_ok-copy.ensures j)) (map moment_of (c.items.ensures j))));
       states = c.in_ok-states.ensures;
     })
     stands exact
 
--- the days and one more
-all_dated : (unit : TimeUnit) (days after : List Day) (day : Day) → All (λ d. IsDated unit d.point) days → IsDated unit day.point → after ≡ days ++ day ∷ [] → All (λ d. IsDated unit d.point) after
-all_dated unit days after day dated now is = subst (All (λ d. IsDated unit d.point)) (sym is) (All-append (λ d. IsDated unit d.point) days (day ∷ []) dated one)
+-- the moments and one more
+all_dated : (unit : TimeUnit) (moments after : List KeptMoment) (kept : KeptMoment) → All (λ d. IsDated unit d.point) moments → IsDated unit kept.point → after ≡ moments ++ kept ∷ [] → All (λ d. IsDated unit d.point) after
+all_dated unit moments after kept dated now is = subst (All (λ d. IsDated unit d.point)) (sym is) (All-append (λ d. IsDated unit d.point) moments (kept ∷ []) dated one)
   where
-    one : (k : ℕ) (d : Day) → k < 1 → IsDated unit (get_or (day ∷ []) k d).point
+    one : (k : ℕ) (d : KeptMoment) → k < 1 → IsDated unit (get_or (kept ∷ []) k d).point
     one zero d lt = now
     one (suc k) d lt = absurd (omega arith)
 
 pub returns-clause-made : goal.returns-clause-made
 returns-clause-made c =
     let unit = c.args.deed.now.unit in
-    let e : c.in_ok-day.day.point ≡ c.args.self.now.point = c.in_ok-day.ensures.point ∙ dated_is_passed unit c.args.self.now.point c.requires.dated in
-    all_dated unit c.args.self.now.days c.push.new.self c.in_ok-day.day c.requires.made (subst (IsDated unit) (sym e) c.requires.dated) c.in_ok-push.ensures.ok
+    let e : c.in_ok-moment.moment.point ≡ c.args.self.now.point = c.in_ok-moment.ensures.point ∙ dated_is_passed unit c.args.self.now.point c.requires.dated in
+    all_dated unit c.args.self.now.moments c.push.new.self c.in_ok-moment.moment c.requires.made (subst (IsDated unit) (sym e) c.requires.dated) c.in_ok-push.ensures.ok

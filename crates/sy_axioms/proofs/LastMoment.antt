@@ -1,11 +1,11 @@
--- The last of the days that stand for a chronicle is its last moment.
+-- The last of the moments that stand for a chronicle is its last moment.
 use Rattle.std.proofs.Common.{◌≡◌, ℕ, suc, List, [], ◌∷◌, ◌++◌, length, map, refl, sym, ◌∙◌, ap, arith, length-append}
 use Rattle.std.proofs.lemmas.List.{map-append}
 use Rattle.sy_core.specs.declared.deed.Deed.{Deed}
 use Rattle.sy_core.specs.declared.happening.Happening.{Happening}
 use Rattle.sy_core.specs.Chronicle.{chronicle, moment_at}
-use Rattle.sy_axioms.specs.declared.day.Day.{Day}
-use Rattle.sy_axioms.specs.Days.{moment_of}
+use Rattle.sy_axioms.specs.declared.moment.Moment.{Moment as KeptMoment}
+use Rattle.sy_axioms.specs.Machine.KeptMoments.{moment_of}
 
 -- two lists that are the same have the same last item, and the same items before it
 same_last : {X : Type 0} (xs ys : List X) (x y : X) → xs ++ x ∷ [] ≡ ys ++ y ∷ [] → (xs ≡ ys) × (x ≡ y)
@@ -17,9 +17,9 @@ same_last (w ∷ ws) (z ∷ zs) x y h =
     let e : w ≡ z = cc in
     ((λ j. e j ∷ r.0 j), r.1)
 
-module _ (deed : Deed) (narrative : List Happening) (n : ℕ) (days before : List Day) (now : Day) (is : days ≡ before ++ now ∷ []) where
-  split : map moment_of before ++ moment_of now ∷ [] ≡ map moment_of days
+module _ (deed : Deed) (narrative : List Happening) (n : ℕ) (moments before : List KeptMoment) (now : KeptMoment) (is : moments ≡ before ++ now ∷ []) where
+  split : map moment_of before ++ moment_of now ∷ [] ≡ map moment_of moments
   split = sym (ap (map moment_of) is ∙ map-append moment_of before (now ∷ []))
 
-  pub last_is : map moment_of days ≡ chronicle deed narrative (suc n) → (map moment_of before ≡ chronicle deed narrative n) × (moment_of now ≡ moment_at deed narrative n)
-  last_is told = same_last (map moment_of before) (chronicle deed narrative n) (moment_of now) (moment_at deed narrative n) (split ∙ told)
+  pub last_is : map moment_of moments ≡ chronicle deed narrative (suc n) → (map moment_of before ≡ chronicle deed narrative n) × (moment_of now ≡ moment_at deed narrative n)
+  last_is kept = same_last (map moment_of before) (chronicle deed narrative n) (moment_of now) (moment_at deed narrative n) (split ∙ kept)

@@ -3,7 +3,7 @@ ghost use Rattle.std.specs.List.{list_any};
 ghost use Rattle.sy_core.specs.Propositions.{situation_holds};
 ghost use Rattle.sy_core.specs.Matching.{matches};
 ghost use Rattle.sy_core.specs.Chronicle.{exerts};
-ghost use Rattle.sy_axioms.specs.Days.{has, set_of, state_in, moment_of};
+ghost use Rattle.sy_axioms.specs.Machine.KeptMoments.{has, set_of, state_in, moment_of};
 
 use std::alloc::Global;
 use sy_base::{List, Memory, Point};
@@ -56,9 +56,9 @@ pub(crate) struct States {
 
 /// A point: what the narrative has there, the states at its start, and its internal events.
 #[derive(Debug, Drop)]
-pub(crate) struct Day {
+pub(crate) struct Moment {
     pub point: Point,
-    pub whats: List<What>,
+    pub happenings: List<What>,
     pub states: States,
     pub events: Events,
 }
@@ -124,7 +124,7 @@ fn is_exertion(power: u32, what: &What) -> bool
     }
 }
 
-impl Day {
+impl Moment {
     /// The kinds of internal event that happen to the position with this number.
     pub fn fired_at(&self, position: u32) -> Fired
         ensures { (kind : _) → has result kind
@@ -169,9 +169,9 @@ impl Day {
 
     /// Whether the narrative has a happening here that the event matches.
     fn is_matched(&self, ev: &Ev) -> bool
-        ensures { result ≡ list_any (matches ev.now) self.now.whats }
+        ensures { result ≡ list_any (matches ev.now) self.now.happenings }
     {
-        self.whats.items().iter().any(|what| matches(ev, what))
+        self.happenings.items().iter().any(|what| matches(ev, what))
     }
 
     /// Whether the event happens here.
@@ -188,7 +188,7 @@ impl Day {
     pub fn asks(&self, power: u32) -> bool
         ensures { result ≡ (moment_of self.now).asked power }
     {
-        self.whats
+        self.happenings
             .items()
             .iter()
             .any(|what| is_exertion(power, what))

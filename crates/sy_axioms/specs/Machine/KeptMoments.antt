@@ -1,4 +1,4 @@
--- What a kept day says, as a moment, and what one round makes of it.
+-- What a kept moment is by the definitions, and what one round makes of it.
 use Rattle.std.specs.Prelude.{ℕ, ◌+◌, Bool, false, List, [], ◌∷◌, ◌++◌, Option, Some, None, slice_get, unwrap_or, map}
 use Rattle.sy_core.specs.declared.kind.Kind.{Kind}
 use Rattle.sy_core.specs.declared.kind.Kind.TheVariants.{Exerted, Triggered, Activated, Resumed, Suspended, Fulfilled, Violated, Expired, Discharged, Terminated, Completed}
@@ -12,10 +12,10 @@ use Rattle.sy_core.specs.Moments.{Moment}
 use Rattle.sy_core.specs.States.{contract_after}
 use Rattle.sy_core.specs.Conditions.{next_state, contract_fires, position_fires}
 use Rattle.sy_core.specs.Chronicle.{assuming}
-use Rattle.sy_axioms.specs.declared.day.Day.{Day}
-use Rattle.sy_axioms.specs.declared.day.Events.{Events}
-use Rattle.sy_axioms.specs.declared.day.Fired.{Fired}
-use Rattle.sy_axioms.specs.declared.day.States.{States}
+use Rattle.sy_axioms.specs.declared.moment.Moment.{Moment as KeptMoment}
+use Rattle.sy_axioms.specs.declared.moment.Events.{Events}
+use Rattle.sy_axioms.specs.declared.moment.Fired.{Fired}
+use Rattle.sy_axioms.specs.declared.moment.States.{States}
 
 -- the kind is among those that happen
 abbrev pub has : Fired → Kind → Bool
@@ -50,13 +50,9 @@ abbrev pub state_in : States → Target → StateOf
 state_in states T.Contract = states.contract
 state_in states (T.Position i) = unwrap_or (slice_get states.positions i) S.Null
 
--- the moment that a day keeps
-abbrev pub moment_of : Day → Moment
-moment_of day = assuming day.point day.whats (state_in day.states) (set_of day.events)
-
--- the moments of some days, and of the day now
-abbrev pub moments_to : List Day → Day → List Moment
-moments_to before now = map moment_of before ++ moment_of now ∷ []
+-- the moment that a moment keeps
+abbrev pub moment_of : KeptMoment → Moment
+moment_of kept = assuming kept.point kept.happenings (state_in kept.states) (set_of kept.events)
 
 -- the kinds that pass a test
 abbrev pub fired_by : (Kind → Bool) → Fired
@@ -76,15 +72,15 @@ fired_by test = record {
 
 -- what the conditions give for each position, from number i on
 abbrev pub fired_from : Deed → Moment → List Moment → ℕ → List Position → List Fired
-fired_from deed now moments i [] = []
-fired_from deed now moments i (p ∷ ps) =
-    fired_by (position_fires deed now moments i p) ∷ fired_from deed now moments (i + 1) ps
+fired_from deed now before i [] = []
+fired_from deed now before i (p ∷ ps) =
+    fired_by (position_fires deed now before i p) ∷ fired_from deed now before (i + 1) ps
 
 -- one round: what the conditions give for the contract and for each position
 abbrev pub round_of : Deed → Moment → List Moment → Events
-round_of deed now moments = record {
+round_of deed now before = record {
   contract = fired_by (contract_fires deed now);
-  positions = fired_from deed now moments 0 deed.positions;
+  positions = fired_from deed now before 0 deed.positions;
 }
 
 -- the states after a moment, of the positions from number i on
@@ -92,9 +88,9 @@ abbrev pub next_states : Moment → ℕ → List Position → List StateOf
 next_states m i [] = []
 next_states m i (p ∷ ps) = next_state m i p ∷ next_states m (i + 1) ps
 
--- the states after a day
-abbrev pub states_past : Deed → Day → States
-states_past deed day = record {
-  contract = contract_after (has day.events.contract) day.states.contract;
-  positions = next_states (moment_of day) 0 deed.positions;
+-- the states after a moment
+abbrev pub states_past : Deed → KeptMoment → States
+states_past deed kept = record {
+  contract = contract_after (has kept.events.contract) kept.states.contract;
+  positions = next_states (moment_of kept) 0 deed.positions;
 }

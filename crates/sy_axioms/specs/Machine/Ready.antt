@@ -4,10 +4,10 @@ use Rattle.std.specs.List.{All}
 use Rattle.sy_base.specs.Points.{IsDated}
 use Rattle.sy_core.specs.declared.deed.Deed.{Deed}
 use Rattle.sy_core.specs.Soundness.{IsSound}
-use Rattle.sy_axioms.specs.declared.day.Day.{Day}
+use Rattle.sy_axioms.specs.declared.moment.Moment.{Moment as KeptMoment}
 
 -- the deed is sound, and every point is one of a date in its unit
-pub record IsReady (deed : Deed) (before : List Day) (now : Day) : Type 0 where
+pub record IsReady (deed : Deed) (before : List KeptMoment) (now : KeptMoment) : Type 0 where
   pub sound : IsSound deed
-  pub before_dated : All (λ day. IsDated deed.unit day.point) before
+  pub before_dated : All (λ kept. IsDated deed.unit kept.point) before
   pub now_dated : IsDated deed.unit now.point

@@ -1,0 +1,3 @@
+pub mod KeptMoments
+pub mod Ready
+pub mod Presents
