@@ -22,13 +22,13 @@ use Rattle.sy_core.specs.Conditions.{fires, count_events}
 use Rattle.sy_core.specs.Rounds.{rounds}
 use Rattle.sy_core.specs.Chronicle.{assuming, internal_events, at_point, exerts, stands, states_from, states_next, position_after, first_state, chronicle, state_at, moment_at}
 use Rattle.sy_core.specs.Tables.{states_of}
-use Rattle.sy_core.proofs.Members.{among, contained}
+use Rattle.sy_core.proofs.Members.{among, contained, any_of_all}
 use Rattle.sy_axioms.specs.declared.moment.Moment.{Moment as KeptMoment}
 use Rattle.sy_axioms.specs.declared.moment.States.{States}
 use Rattle.sy_axioms.specs.declared.plain.Plain.{Plain}
 use Rattle.sy_axioms.specs.Machine.KeptMoments.{moment_of, state_in, next_states, states_past}
 use Rattle.sy_axioms.specs.Standing.{StandsFor, HasExactly}
-use Rattle.sy_axioms.proofs.Members.{bool_same, any_in, some_in, any_of_kept, any_of_all}
+use Rattle.sy_axioms.proofs.Members.{bool_same, any_in, some_in, any_of_kept}
 
 -- the states after some moments are those after the last of them
 states_from-last : (deed : Deed) (state : Target → StateOf) (ms : List Moment) (m : Moment) → states_from deed state (ms ++ m ∷ []) ≡ states_next deed m

@@ -3,7 +3,6 @@ pub mod Equal
 pub mod GoesOn
 pub mod LastMoment
 pub mod Members
-pub mod Mentions
 pub mod Numbered
 pub mod OneRound
 pub mod Passing

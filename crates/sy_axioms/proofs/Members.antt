@@ -32,8 +32,3 @@ any_of_kept f kept p (x ∷ xs) = here (kept x) refl (any_of_kept f kept p xs)
     here : (b : Bool) → kept x ≡ b → list_any p (map f (filter kept xs)) ≡ list_any (λ x. kept x && p (f x)) xs → list_any p (map f (filter kept (x ∷ xs))) ≡ ((kept x && p (f x)) || list_any (λ x. kept x && p (f x)) xs)
     here true e more = rw e (ap (λ b. p (f x) || b) more)
     here false e more = rw e more
-
--- a test of what all members have
-pub any_of_all : {X Y : Type 0} (f : X → Y) (p : Y → Bool) (xs : List X) → list_any p (map f xs) ≡ list_any (λ x. p (f x)) xs
-any_of_all f p [] = refl
-any_of_all f p (x ∷ xs) = ap (λ b. p (f x) || b) (any_of_all f p xs)

@@ -6,28 +6,8 @@ ghost use Rattle.sy_axioms.specs.Machine.Presents.{moment_now};
 
 use crate::moment::Moment;
 use crate::present::Present;
-use crate::remedy::is_remedy;
 use crate::states::next_state;
-use sy_core::{Form, Position, StateOf, Target, is_same_state};
-
-/// The contract's completion waits for positions of the form.
-fn is_awaited(form: Form) -> bool
-    ensures { result ≡ is_awaited form }
-{
-    matches!(form, Form::Obligation)
-}
-
-/// An obligation in this state is settled: not begun, fulfilled, discharged, or violated and
-/// remedied.
-fn is_settled(state: StateOf, remedied: bool) -> bool
-    ensures { result ≡ is_settled state remedied }
-{
-    match state {
-        StateOf::Null | StateOf::Fulfillment | StateOf::Discharge => true,
-        StateOf::Violation => remedied,
-        _ => false,
-    }
-}
+use sy_core::{Position, StateOf, Target, is_awaited, is_remedy, is_same_state, is_settled};
 
 /// The position is a remedy of the violated obligation, and is fulfilled after the point.
 fn remedies(now: &Moment, number: u32, position: &Position, violated: Target) -> bool

@@ -1,6 +1,5 @@
-ghost use Rattle.std.specs.Prelude.{◌≡◌, ◌==◌, ◌&&◌, IsTrue};
-ghost use Rattle.sy_core.specs.Propositions.{is_true, is_false};
-ghost use Rattle.sy_core.specs.Conditions.{verb_number, is_act, acts_on_contract, is_power, is_obligation, survives, happened, was, live, alive, in_force, is_created, remains_in_force, duty_verdict, by};
+ghost use Rattle.std.specs.Prelude.{◌≡◌, ◌&&◌, IsTrue};
+ghost use Rattle.sy_core.specs.Conditions.{is_act, happened, was, live, alive, in_force, is_created, remains_in_force, duty_verdict, by};
 ghost use Rattle.sy_core.specs.Soundness.{is_sound_goal, is_sound_position};
 ghost use Rattle.sy_axioms.specs.Machine.KeptMoments.{moment_of};
 ghost use Rattle.sy_axioms.specs.Machine.Presents.{moment_now, moments_before, contract_fires_now, fires_now};
@@ -8,68 +7,11 @@ ghost use Rattle.sy_axioms.specs.Machine.Presents.{moment_now, moments_before, c
 use crate::completion::is_complete;
 use crate::moment::Moment;
 use crate::present::Present;
-use crate::remedy::{has_holds, is_same_target};
 use crate::verdict::verdict;
-use sy_core::{Form, Goal, Kind, Position, StateOf, Target, Verb, Verdict, is_same_state};
-
-/// The form is that of a power.
-fn is_power(form: Form) -> bool
-    ensures { result ≡ is_power form }
-{
-    matches!(form, Form::Power)
-}
-
-/// The form is that of an obligation, surviving or not.
-pub(crate) fn is_obligation(form: Form) -> bool
-    ensures { result ≡ is_obligation form }
-{
-    !matches!(form, Form::Power)
-}
-
-/// The form is that of a surviving obligation.
-fn survives(form: Form) -> bool
-    ensures { result ≡ survives form }
-{
-    matches!(form, Form::Surviving)
-}
-
-fn is_true(verdict: Verdict) -> bool
-    ensures { result ≡ is_true verdict }
-{
-    matches!(verdict, Verdict::True)
-}
-
-fn is_false(verdict: Verdict) -> bool
-    ensures { result ≡ is_false verdict }
-{
-    matches!(verdict, Verdict::False)
-}
-
-fn is_same_verb(a: Verb, b: Verb) -> bool
-    ensures { result ≡ (verb_number a == verb_number b) }
-{
-    a as u8 == b as u8
-}
-
-/// The goal is the act that does this to that target.
-fn is_act(verb: Verb, target: Target, goal: &Goal) -> bool
-    ensures { result ≡ is_act verb target goal.now }
-{
-    match goal {
-        Goal::Act(act) => is_same_verb(act.verb, verb) && is_same_target(act.target, target),
-        Goal::Duty(_) => false,
-    }
-}
-
-/// The goal is an act on the contract.
-fn acts_on_contract(goal: &Goal) -> bool
-    ensures { result ≡ acts_on_contract goal.now }
-{
-    match goal {
-        Goal::Act(act) => is_same_target(act.target, Target::Contract),
-        Goal::Duty(_) => false,
-    }
-}
+use sy_core::{
+    Form, Goal, Kind, Position, StateOf, Target, Verb, Verdict, acts_on_contract, has_holds,
+    is_act, is_false, is_obligation, is_power, is_same_state, is_true, survives,
+};
 
 /// The target was in the state at the start of the point.
 fn was(now: &Moment, target: Target, state: StateOf) -> bool

@@ -7,7 +7,6 @@ mod condition;
 mod moment;
 mod plain;
 mod present;
-mod remedy;
 mod rounds;
 mod states;
 mod verdict;

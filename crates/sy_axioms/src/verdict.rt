@@ -3,49 +3,14 @@ ghost use Rattle.std.specs.List.{list_all};
 ghost use Rattle.sy_base.specs.Points.{IsDated};
 ghost use Rattle.sy_core.specs.declared.proposition.Prop.TheOpen as PropOpen;
 ghost use Rattle.sy_core.specs.Moments.{seen_ever, seen_before, seen_after, seen_between, first_point, base_value, all_added, date_value};
-ghost use Rattle.sy_core.specs.Propositions.{opposite, lesser, greater, verdict_by, fails_within};
+ghost use Rattle.sy_core.specs.Propositions.{verdict_by, fails_within};
 ghost use Rattle.sy_core.specs.Soundness.{is_duration_of, is_sound_date, is_sound_prop};
 ghost use Rattle.sy_axioms.specs.Machine.Presents.{moments_to_now, step_now, verdict_now};
 
 use crate::present::Present;
 use sy_base::{Duration, Point, TimeUnit};
-use sy_core::{Base, DateTerm, Ev, Prop, Situation, Verdict};
+use sy_core::{Base, DateTerm, Ev, Prop, Situation, Verdict, greater, lesser, opposite};
 use sy_time::add;
-
-/// Not.
-fn opposite(verdict: Verdict) -> Verdict
-    ensures { result ≡ opposite verdict }
-{
-    match verdict {
-        Verdict::False => Verdict::True,
-        Verdict::Open => Verdict::Open,
-        Verdict::True => Verdict::False,
-    }
-}
-
-/// The lesser of two verdicts, where False is less than Open and Open than True.
-fn lesser(a: Verdict, b: Verdict) -> Verdict
-    ensures { result ≡ lesser a b }
-{
-    match (a, b) {
-        (Verdict::False, _) => Verdict::False,
-        (Verdict::True, verdict) => verdict,
-        (Verdict::Open, Verdict::False) => Verdict::False,
-        (Verdict::Open, _) => Verdict::Open,
-    }
-}
-
-/// The greater of two verdicts.
-fn greater(a: Verdict, b: Verdict) -> Verdict
-    ensures { result ≡ greater a b }
-{
-    match (a, b) {
-        (Verdict::True, _) => Verdict::True,
-        (Verdict::False, verdict) => verdict,
-        (Verdict::Open, Verdict::True) => Verdict::True,
-        (Verdict::Open, _) => Verdict::Open,
-    }
-}
 
 /// True where the first test says so, else False where the second does, else Open.
 fn verdict_by(passes: bool, fails: bool) -> Verdict

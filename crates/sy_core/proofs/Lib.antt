@@ -1,5 +1,6 @@
 pub mod Equal
 pub mod Members
+pub mod Mentions
 pub mod OrderLaw
 pub mod DependenceLaw
 pub mod RoundsLaw

@@ -5,28 +5,37 @@
 mod date_term;
 mod deed;
 mod event;
+mod goal;
 mod happening;
 mod kind;
 mod matching;
 mod position;
 mod proposition;
+mod remedy;
 mod rounds_law;
 mod state;
 mod table;
 #[cfg(test)]
 mod tests;
 mod value;
+mod verdict;
 
 pub use date_term::{Base, DateTerm};
 pub use deed::{AttrDecl, Choices, Deed, EventDecl};
 pub use event::{Ev, Guard};
+pub use goal::{
+    acts_on_contract, is_act, is_awaited, is_obligation, is_power, is_same_target, is_settled,
+    survives,
+};
 pub use happening::{Happening, What};
 pub use kind::{Kind, Target, contract_kinds, kinds_of};
 pub use matching::matches;
 pub use position::{Act, Form, Goal, Position, Verb};
 pub use proposition::{Prop, Situation};
+pub use remedy::{has_holds, is_remedy};
 pub use rounds_law::rounds_settle;
 pub use sqlite_items::{Boxed, Items};
 pub use state::{StateOf, copy_states, is_same_state};
 pub use table::{Mark, Table, Verdict};
 pub use value::{Cmp, Value, ValueKind};
+pub use verdict::{greater, is_false, is_true, lesser, opposite};

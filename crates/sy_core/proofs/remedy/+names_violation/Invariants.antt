@@ -1,7 +1,7 @@
 use Rattle.std.proofs.Common.{◌≡◌, drop}
 use Rattle.std.specs.List.{list_any}
-use Rattle.sy_axioms.proofs.Mentions.{is_named}
-use Rattle.sy_axioms.proofs.remedy.+names_violation.Given as goal
+use Rattle.sy_core.proofs.Mentions.{is_named}
+use Rattle.sy_core.proofs.remedy.+names_violation.Given as goal
 
 abbrev pub invariant-loop-part : goal.invariant-loop-part
 invariant-loop-part l =

@@ -1,7 +1,7 @@
 use Rattle.std.proofs.Common.{sym, ◌∙◌, ap}
 use Rattle.std.specs.List.{list_any}
-use Rattle.sy_axioms.proofs.Mentions.{is_named, is_named-parts, found_at, none_left}
-use Rattle.sy_axioms.proofs.remedy.+names_violation.Goals as goal
+use Rattle.sy_core.proofs.Mentions.{is_named, is_named-parts, found_at, none_left}
+use Rattle.sy_core.proofs.remedy.+names_violation.Goals as goal
 
 pub returns-then-names_violation : goal.returns-then-names_violation
 returns-then-names_violation t c =

@@ -1,21 +1,14 @@
 ghost use Rattle.std.specs.Prelude.{◌≡◌};
 ghost use Rattle.std.specs.List.{list_any};
-ghost use Rattle.sy_core.specs.Mentions.{named_by_event, named_by_base, named_by_date, names_of, has_holds, same_target, is_violation_of};
+ghost use Rattle.sy_core.specs.Mentions.{named_by_event, named_by_base, named_by_date, names_of, has_holds, is_violation_of};
 ghost use Rattle.sy_core.specs.Conditions.{is_remedy};
 
-use crate::condition::is_obligation;
-use sy_core::{Base, DateTerm, Ev, Kind, Position, Prop, Target};
-
-/// The targets are the same.
-pub(crate) fn is_same_target(a: Target, b: Target) -> bool
-    ensures { result ≡ same_target a b }
-{
-    match (a, b) {
-        (Target::Contract, Target::Contract) => true,
-        (Target::Position(i), Target::Position(j)) => i == j,
-        _ => false,
-    }
-}
+use crate::date_term::{Base, DateTerm};
+use crate::event::Ev;
+use crate::goal::{is_obligation, is_same_target};
+use crate::kind::{Kind, Target};
+use crate::position::Position;
+use crate::proposition::Prop;
 
 /// The event is the violation of the target.
 fn is_violation(ev: &Ev, violated: Target) -> bool
@@ -68,14 +61,14 @@ fn names_violation(prop: &Prop, violated: Target) -> bool
 }
 
 /// The position is a remedy of the violated obligation: an obligation whose trigger names its violation.
-pub(crate) fn is_remedy(violated: Target, position: &Position) -> bool
+pub fn is_remedy(violated: Target, position: &Position) -> bool
     ensures { result ≡ is_remedy violated position.now }
 {
     is_obligation(position.form) && names_violation(&position.trigger, violated)
 }
 
 /// The proposition has a `Holds` somewhere in it.
-pub(crate) fn has_holds(prop: &Prop) -> bool
+pub fn has_holds(prop: &Prop) -> bool
     ensures { result ≡ has_holds prop.now }
 {
     match prop {

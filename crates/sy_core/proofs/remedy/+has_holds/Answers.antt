@@ -1,8 +1,8 @@
 use Rattle.std.proofs.Common.{sym, ◌∙◌, ap}
 use Rattle.std.specs.List.{list_any}
 use Rattle.sy_core.specs.Mentions.{has_holds}
-use Rattle.sy_axioms.proofs.Mentions.{has_holds-parts, found_at, none_left}
-use Rattle.sy_axioms.proofs.remedy.+has_holds.Goals as goal
+use Rattle.sy_core.proofs.Mentions.{has_holds-parts, found_at, none_left}
+use Rattle.sy_core.proofs.remedy.+has_holds.Goals as goal
 
 pub returns-then-has_holds : goal.returns-then-has_holds
 returns-then-has_holds t c =
