@@ -5,16 +5,22 @@ use Rattle.std.proofs.lemmas.Bool.Decides.{nat_tests}
 use Rattle.sy_base.specs.Dates.{written_date}
 use Rattle.sy_lex.specs.declared.token.TokenKind.{TokenKind}
 use Rattle.sy_lex.specs.declared.token.TokenKind.TheVariants as K
+use Rattle.sy_lex.specs.declared.keyword.Keyword.{Keyword}
 use Rattle.sy_lex.specs.declared.sign.Sign.{Sign}
 use Rattle.sy_lex.specs.declared.step.Step.{Step}
 use Rattle.sy_lex.specs.declared.step.Step.TheVariants as S
 use Rattle.sy_lex.specs.Bytes.{is_letter, is_digit, is_blank, is_quote}
+use Rattle.sy_lex.specs.Keywords.{keyword_text}
 use Rattle.sy_lex.specs.Signs.{sign_text}
-use Rattle.sy_lex.specs.Forms.{IsWord, IsReserved, IsNumber, IsString, IsSign, HasForm}
+use Rattle.sy_lex.specs.Forms.{IsWord, IsNumber, IsString, HasForm}
 use Rattle.sy_lex.specs.Cutting.{string_step, slash_step, word_step, digit_step, sign_step, step_at}
 use Rattle.sy_lex.proofs.Dates.{date_shape}
 use Rattle.sy_lex.proofs.Words.{keyword_is_word}
 use Rattle.sy_lex.proofs.SignTexts.{BeginsSign, sign_complete, sign_first}
+
+-- one of the signs
+abbrev pub IsSign : List ℕ → Type 0
+IsSign text = (sign : Sign) × (sign_text sign ≡ text)
 
 -- what a byte begins: a text between quotes, a comment, a blank, a word, a number or a date, or a sign or nothing
 pub data Class : Type 0 where
@@ -72,38 +78,38 @@ sign_class b s = rw (s.quote, s.slash, s.blank, s.letter, s.digit) refl
 -- the class of the bytes that begin a kind of token
 abbrev pub class_of_kind : TokenKind → Class
 class_of_kind K.Word = letter
-class_of_kind K.Reserved = letter
+class_of_kind (K.Reserved keyword) = letter
 class_of_kind K.Number = digit
 class_of_kind K.Date = digit
 class_of_kind K.Str = quote
-class_of_kind K.Sign = other
+class_of_kind (K.Sign sign) = other
 
 pub record Begins (kind : TokenKind) (text : List ℕ) : Type 0 where
   pub some : 0 < length text
   pub class : class_of (get_or text 0 0) ≡ class_of_kind kind
 
-reserved_word : (text : List ℕ) → IsReserved text → IsWord text
-reserved_word text (keyword, is) = subst IsWord is (keyword_is_word keyword)
+reserved_word : (keyword : Keyword) (text : List ℕ) → keyword_text keyword ≡ text → IsWord text
+reserved_word keyword text is = subst IsWord is (keyword_is_word keyword)
 
-sign_begins : (text : List ℕ) (sign : Sign) → sign_text sign ≡ text → Begins K.Sign text
-sign_begins [] sign is =
+sign_begins : (sign : Sign) (text : List ℕ) → sign_text sign ≡ text → Begins (K.Sign sign) text
+sign_begins sign [] is =
     let found = sign_complete sign 0 [] (omega arith) is (λ _ _ lt le. absurd (omega arith)) in absurd cc
-sign_begins (b ∷ text) sign is = record { some = omega arith; class = sign_class b (sign_first sign b text is) }
+sign_begins sign (b ∷ text) is = record { some = omega arith; class = sign_class b (sign_first sign b text is) }
 
 pub begins : (kind : TokenKind) (text : List ℕ) → HasForm kind text → Begins kind text
 begins K.Word text f = record { some = f.0.some; class = letter_class (get_or text 0 0) f.0.letter }
-begins K.Reserved text f =
-    let word = reserved_word text f in record { some = word.some; class = letter_class (get_or text 0 0) word.letter }
+begins (K.Reserved keyword) text f =
+    let word = reserved_word keyword text f in record { some = word.some; class = letter_class (get_or text 0 0) word.letter }
 begins K.Number text f = record { some = f.some; class = digit_class (get_or text 0 0) (f.each 0 f.some) }
 begins K.Date text f =
     let shape = date_shape text f in record { some = grind (arith, shape.size); class = digit_class (get_or text 0 0) shape.digit }
 begins K.Str text f = rw f.quoted (record { some = omega arith; class = refl })
-begins K.Sign text f = sign_begins text f.0 f.1
+begins (K.Sign sign) text f = sign_begins sign text f
 
 pub letter_form : (kind : TokenKind) (text : List ℕ) → class_of (get_or text 0 0) ≡ letter → HasForm kind text
     → IsWord text
 letter_form K.Word text is f = f.0
-letter_form K.Reserved text is f = reserved_word text f
+letter_form (K.Reserved keyword) text is f = reserved_word keyword text f
 letter_form kind text is f = let b = begins kind text f in absurd (cc b.class)
 
 pub digit_form : (kind : TokenKind) (text : List ℕ) → class_of (get_or text 0 0) ≡ digit → HasForm kind text
@@ -119,5 +125,5 @@ quote_form kind text is f = let b = begins kind text f in absurd (cc b.class)
 
 pub other_form : (kind : TokenKind) (text : List ℕ) → class_of (get_or text 0 0) ≡ other → HasForm kind text
     → IsSign text
-other_form K.Sign text is f = f
+other_form (K.Sign sign) text is f = (sign, f)
 other_form kind text is f = let b = begins kind text f in absurd (cc b.class)

@@ -111,12 +111,12 @@ date_first_step n bytes f =
 
 -- ---- signs
 
-sign_first_step : (n : ℕ) (bytes : List ℕ) → IsFirst K.Sign n bytes → sign_step bytes ≡ S.Token K.Sign n
-sign_first_step n bytes f =
-    let sign = f.form.0 in
-    let found = sign_complete sign n bytes f.within f.form.1 (λ other m lt le is. f.longest K.Sign m lt le (other, is)) in
+sign_first_step : (sign : Sign) (n : ℕ) (bytes : List ℕ) → IsFirst (K.Sign sign) n bytes
+    → sign_step bytes ≡ S.Token (K.Sign sign) n
+sign_first_step sign n bytes f =
+    let found = sign_complete sign n bytes f.within f.form (λ other m lt le is. f.longest (K.Sign other) m lt le is) in
     ap (λ (o : Option Sign). sign_or_fault o bytes) found
-    ∙ ap (S.Token K.Sign) (ap length f.form.1 ∙ length-take-le n bytes f.within)
+    ∙ ap (S.Token (K.Sign sign)) (ap length f.form ∙ length-take-le n bytes f.within)
 
 -- ---- all kinds
 
@@ -124,13 +124,13 @@ by_kind : (kind : TokenKind) (n b : ℕ) (bytes : List ℕ) → IsFirst kind n (
     → class_step (class_of_kind kind) b bytes ≡ S.Token kind n
 by_kind K.Word n b bytes f class =
     letter_step K.Word n (b ∷ bytes) f class (word_kind _ (keyword_of (take n (b ∷ bytes))) refl f.form.1)
-by_kind K.Reserved n b bytes f class =
-    letter_step K.Reserved n (b ∷ bytes) f class (ap kind_of_word (keyword_found (take n (b ∷ bytes)) f.form.0 f.form.1))
+by_kind (K.Reserved keyword) n b bytes f class =
+    letter_step (K.Reserved keyword) n (b ∷ bytes) f class (ap kind_of_word (keyword_found (take n (b ∷ bytes)) keyword f.form))
 by_kind K.Number n b bytes f class = number_first_step n (b ∷ bytes) f
 by_kind K.Date n b bytes f class = date_first_step n (b ∷ bytes) f
 by_kind K.Str n b bytes f class =
     sym (step_by_class b bytes c.quote class) ∙ string_exact (b ∷ bytes) n f.within f.form
-by_kind K.Sign n b bytes f class = sign_first_step n (b ∷ bytes) f
+by_kind (K.Sign sign) n b bytes f class = sign_first_step sign n (b ∷ bytes) f
 
 pub first_step : (kind : TokenKind) (n b : ℕ) (bytes : List ℕ) → IsFirst kind n (b ∷ bytes)
     → step_at (b ∷ bytes) ≡ S.Token kind n

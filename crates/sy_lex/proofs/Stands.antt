@@ -80,7 +80,7 @@ module _ (bytes : List ℕ) (class : class_of (get_or bytes 0 0) ≡ c.letter) w
       → keyword_of (take (prefix_len is_word_byte bytes) bytes) ≡ found
       → IsFirst (kind_of_word found) (prefix_len is_word_byte bytes) bytes
   word_by None word is = word_first K.Word (word, λ reserved. keyword_none _ is reserved.0 reserved.1)
-  word_by (Some keyword) word is = word_first K.Reserved (keyword, keyword_is _ keyword is)
+  word_by (Some keyword) word is = word_first (K.Reserved keyword) (keyword_is _ keyword is)
 
   word_stands : is_letter (get_or bytes 0 0) ≡ true → 0 < prefix_len is_word_byte bytes
       → Stands bytes (word_step bytes)
@@ -184,7 +184,7 @@ sign_stands (Some sign) b bytes class is =
     let found = sign_found (b ∷ bytes) sign is in
     record {
       within = found.within;
-      form = (sign, sym found.front);
+      form = sym found.front;
       longest = λ other m lt le f.
           let longer = other_form other (take m (b ∷ bytes)) (text_class m (b ∷ bytes) (omega arith) ∙ class) f in
           sign_longest (b ∷ bytes) sign is longer.0 m lt le longer.1;

@@ -26,7 +26,7 @@ use Rattle.sy_lex.specs.Signs.{sign_at, sign_text}
 use Rattle.sy_lex.specs.Tokens.{first_spot, next_spot, spot_after, token_at, comment_length}
 
 abbrev pub kind_of_word : Option Keyword → TokenKind
-kind_of_word (Some keyword) = K.Reserved
+kind_of_word (Some keyword) = K.Reserved keyword
 kind_of_word None = K.Word
 
 -- a word, or a reserved one
@@ -99,7 +99,7 @@ slash_step [] = S.Bad 1
 slash_step (b ∷ bytes) = if b == 47 then S.Skip (2 + comment_length bytes) else S.Bad 1
 
 abbrev pub sign_or_fault : Option Sign → List ℕ → Step
-sign_or_fault (Some sign) bytes = S.Token K.Sign (length (sign_text sign))
+sign_or_fault (Some sign) bytes = S.Token (K.Sign sign) (length (sign_text sign))
 sign_or_fault None [] = S.Bad 0
 sign_or_fault None (b ∷ bytes) = if b == 33 then S.Bad 1 else S.Bad 0
 

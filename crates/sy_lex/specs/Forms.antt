@@ -4,7 +4,6 @@ use Rattle.sy_base.specs.Dates.{written_date}
 use Rattle.sy_lex.specs.declared.token.TokenKind.{TokenKind}
 use Rattle.sy_lex.specs.declared.token.TokenKind.TheVariants.{Word, Reserved, Number, Date, Str, Sign}
 use Rattle.sy_lex.specs.declared.keyword.Keyword.{Keyword}
-use Rattle.sy_lex.specs.declared.sign.Sign.{Sign as ASign}
 use Rattle.sy_lex.specs.Bytes.{is_letter, is_digit, is_word_byte, is_newline, is_escaped}
 use Rattle.sy_lex.specs.Keywords.{keyword_text}
 use Rattle.sy_lex.specs.Signs.{sign_text}
@@ -43,15 +42,11 @@ pub record IsString (text : List ℕ) : Type 0 where
   pub holds : HasContent inside content
   pub most : length content ≤ 256
 
--- one of the signs
-abbrev pub IsSign : List ℕ → Type 0
-IsSign text = (sign : ASign) × (sign_text sign ≡ text)
-
 -- the text is a token of this kind
 abbrev pub HasForm : TokenKind → List ℕ → Type 0
 HasForm Word text = IsWord text × (IsReserved text → ⊥)
-HasForm Reserved text = IsReserved text
+HasForm (Reserved keyword) text = keyword_text keyword ≡ text
 HasForm Number text = IsNumber text
 HasForm Date text = IsSome (written_date text)
 HasForm Str text = IsString text
-HasForm Sign text = IsSign text
+HasForm (Sign sign) text = sign_text sign ≡ text

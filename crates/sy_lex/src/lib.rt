@@ -11,9 +11,11 @@ mod string;
 #[cfg(test)]
 mod tests;
 mod token;
+mod written;
 
 pub use cut::tokens;
 pub use keyword::Keyword;
 pub use sign::Sign;
 pub use spot::end_place;
 pub use token::{Token, TokenKind};
+pub use written::Written;

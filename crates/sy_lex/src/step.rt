@@ -29,7 +29,7 @@ fn word(bytes: &[u8]) -> Step
         return Step::Bad(64);
     }
     let kind = match Keyword::of(&bytes[..length]) {
-        Some(_) => TokenKind::Reserved,
+        Some(keyword) => TokenKind::Reserved(keyword),
         None => TokenKind::Word,
     };
     Step::Token(kind, length)
@@ -103,7 +103,7 @@ fn sign(bytes: &[u8]) -> Step
     ensures moves { Moves (length bytes.now) result }
 {
     match (Sign::at(bytes), bytes) {
-        (Some(sign), _) => Step::Token(TokenKind::Sign, sign.text().len()),
+        (Some(sign), _) => Step::Token(TokenKind::Sign(sign), sign.text().len()),
         (None, [b'!', ..]) => Step::Bad(1),
         (None, _) => Step::Bad(0),
     }

@@ -36,25 +36,31 @@ fn cuts_texts_into_tokens(rt: HostRuntime) -> Result<(), Fail> {
         (b"\t\rx", &[token(Word, 2, 3, 1, 3)]),
         (
             b"10Days",
-            &[token(Number, 0, 2, 1, 1), token(Reserved, 2, 6, 1, 3)],
+            &[
+                token(Number, 0, 2, 1, 1),
+                token(Reserved(Keyword::Days), 2, 6, 1, 3),
+            ],
         ),
         (
             b"x:=1",
             &[
                 token(Word, 0, 1, 1, 1),
-                token(ASign, 1, 3, 1, 2),
+                token(ASign(Sign::Assign), 1, 3, 1, 2),
                 token(Number, 3, 4, 1, 4),
             ],
         ),
         (
             b": =",
-            &[token(ASign, 0, 1, 1, 1), token(ASign, 2, 3, 1, 3)],
+            &[
+                token(ASign(Sign::Colon), 0, 1, 1, 1),
+                token(ASign(Sign::Equal), 2, 3, 1, 3),
+            ],
         ),
         (
             b"a->b",
             &[
                 token(Word, 0, 1, 1, 1),
-                token(ASign, 1, 3, 1, 2),
+                token(ASign(Sign::Arrow), 1, 3, 1, 2),
                 token(Word, 3, 4, 1, 4),
             ],
         ),
@@ -62,7 +68,7 @@ fn cuts_texts_into_tokens(rt: HostRuntime) -> Result<(), Fail> {
             b"a<=b",
             &[
                 token(Word, 0, 1, 1, 1),
-                token(ASign, 1, 3, 1, 2),
+                token(ASign(Sign::AtMost), 1, 3, 1, 2),
                 token(Word, 3, 4, 1, 4),
             ],
         ),
@@ -70,17 +76,17 @@ fn cuts_texts_into_tokens(rt: HostRuntime) -> Result<(), Fail> {
             b"a< =b",
             &[
                 token(Word, 0, 1, 1, 1),
-                token(ASign, 1, 2, 1, 2),
-                token(ASign, 3, 4, 1, 4),
+                token(ASign(Sign::Less), 1, 2, 1, 2),
+                token(ASign(Sign::Equal), 3, 4, 1, 4),
                 token(Word, 4, 5, 1, 5),
             ],
         ),
         (
             b"isAn isAnx endDomain",
             &[
-                token(Reserved, 0, 4, 1, 1),
+                token(Reserved(Keyword::IsAn), 0, 4, 1, 1),
                 token(Word, 5, 10, 1, 6),
-                token(Reserved, 11, 20, 1, 12),
+                token(Reserved(Keyword::EndDomain), 11, 20, 1, 12),
             ],
         ),
         (&word, &[token(Word, 0, 64, 1, 1)]),
@@ -101,16 +107,19 @@ fn cuts_texts_into_tokens(rt: HostRuntime) -> Result<(), Fail> {
             b"12024-03-01",
             &[
                 token(Number, 0, 5, 1, 1),
-                token(ASign, 5, 6, 1, 6),
+                token(ASign(Sign::Minus), 5, 6, 1, 6),
                 token(Number, 6, 8, 1, 7),
-                token(ASign, 8, 9, 1, 9),
+                token(ASign(Sign::Minus), 8, 9, 1, 9),
                 token(Number, 9, 11, 1, 10),
             ],
         ),
         (b"2024-03-01T09:30", &[token(Date, 0, 16, 1, 1)]),
         (
             b"-5",
-            &[token(ASign, 0, 1, 1, 1), token(Number, 1, 2, 1, 2)],
+            &[
+                token(ASign(Sign::Minus), 0, 1, 1, 1),
+                token(Number, 1, 2, 1, 2),
+            ],
         ),
         (
             b"\"a\\\"b\\\\\"x",

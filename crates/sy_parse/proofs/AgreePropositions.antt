@@ -5,8 +5,8 @@ use Rattle.sy_lex.specs.declared.keyword.Keyword.{Keyword}
 use Rattle.sy_lex.specs.declared.keyword.Keyword.TheVariants as K
 use Rattle.sy_lex.specs.declared.sign.Sign.TheVariants as Sg
 use Rattle.sy_lex.specs.declared.sign.Sign.TheVariants.{Comma, Open, Close}
-use Rattle.sy_tree.specs.declared.sort.Sort.{Sort}
-use Rattle.sy_tree.specs.declared.sort.Sort.TheVariants as S
+use Rattle.sy_lex.specs.declared.token.TokenKind.{TokenKind}
+use Rattle.sy_lex.specs.declared.token.TokenKind.TheVariants as S
 use Rattle.sy_tree.specs.declared.proposition.First.{First}
 use Rattle.sy_tree.specs.declared.proposition.PropTree.{PropTree}
 use Rattle.sy_tree.specs.declared.proposition.PropTree.TheVariants as P
@@ -15,7 +15,8 @@ use Rattle.sy_tree.specs.declared.date.DateTree.{DateTree}
 use Rattle.sy_tree.specs.Grammar as grammar
 use Rattle.sy_tree.specs.Grammar.{Rule, keyword}
 use Rattle.sy_tree.specs.Propositions.{begins, constant, comparison, happens, event_and_date, dated, two_dates, happens_within, occurs, holds, atom, joined, chain, prop_of, negation, brackets, in_brackets, neg, prop}
-use Rattle.sy_reader.specs.Reader.{Reading, fail, is_heading}
+use Rattle.sy_reader.specs.Reader.{Reading, fail}
+use Rattle.sy_parse.specs.ReadingLines.{is_heading}
 use Rattle.sy_parse.specs.ReadingPropositions.{begins_at, constant_at, comparison_at, happens_at, event_and_date_at, dated_at, two_dates_at, happens_within_at, occurs_at, holds_at, atom_by, atom_at, chain_at, prop_of_at, negation_at, brackets_at, neg_by, neg_at, prop_at}
 use Rattle.sy_reader.proofs.Agree.{Agrees, Any, Next, Begins, Is, Differs, spelled_agrees, then_agrees, then_any, node_agrees, ahead_agrees, keyword_agrees, sign_agrees, behind_agrees, before_agrees, before_any, begins_then, begins_or, begins_as, begins_so, keyword_begins, sign_begins, keyword_takes, takes_then}
 use Rattle.sy_reader.proofs.AgreeMany.{Ends, rank, ends_at, ends_next, loop_while, first_and_many}
@@ -28,7 +29,7 @@ unfolding begins_at
 begins_agrees = node_agrees _ ahead_agrees
 
 -- the first token is only looked at
-first_begins : {A : Type 0} {T : Sort → Type 0} {next : First → Rule A} → ((first : First) → Begins (next first) T) → Begins (grammar.◌>>=◌ begins next) T
+first_begins : {A : Type 0} {T : TokenKind → Type 0} {next : First → Rule A} → ((first : First) → Begins (next first) T) → Begins (grammar.◌>>=◌ begins next) T
 first_begins {T = T} {next = next} each = record { next = λ from y rest d. let stays : d.1 ≡ from = sym (d.2.2.4 ∙ d.2.3.1) in subst (Next T) stays ((each d.0).next d.1 y rest d.3) }
 
 constant_agrees : (word : Keyword) (value : Bool) → Agrees (constant word value) (constant_at word value) Any
@@ -69,17 +70,17 @@ holds_agrees : Agrees holds holds_at Any
 unfolding holds_at
 holds_agrees = then_any begins_agrees λ first. then_any (keyword_agrees K.Holds) λ _. node_agrees (λ situation. P.Holds situation first) (behind_agrees Open (before_any Close situation_agrees))
 
--- a sort with which a line may begin: no heading, and no word that may stand in the place of a trigger
-abbrev pub in_line : Sort → Bool
-in_line (S.Keyword K.O) = false
-in_line (S.Keyword K.P) = false
-in_line sort = not (is_heading sort)
+-- a kind with which a line may begin: no heading, and no word that may stand in the place of a trigger
+abbrev pub in_line : TokenKind → Bool
+in_line (S.Reserved K.O) = false
+in_line (S.Reserved K.P) = false
+in_line kind = not (is_heading kind)
 
 -- what an atom begins with
-abbrev OfAtom : Sort → Type 0
-OfAtom sort = (in_line sort ≡ true) × Differs (S.Keyword K.Not) sort × Differs (S.Sign Open) sort
+abbrev OfAtom : TokenKind → Type 0
+OfAtom kind = (in_line kind ≡ true) × Differs (S.Reserved K.Not) kind × Differs (S.Sign Open) kind
 
-term_in_line : (s : Sort) → BeginsTerm s → OfAtom s
+term_in_line : (s : TokenKind) → BeginsTerm s → OfAtom s
 term_in_line s number = (refl, refl, refl)
 term_in_line s minus = (refl, refl, refl)
 term_in_line s str = (refl, refl, refl)
@@ -89,10 +90,10 @@ term_in_line s name = (refl, refl, refl)
 comparison_begins : Begins comparison BeginsTerm
 comparison_begins = first_begins λ first. begins_then term_begins
 
-worded_begins : (word : Keyword) {next : First → Place → Rule PropTree} → Begins (grammar.◌>>=◌ begins λ first. grammar.◌>>=◌ (keyword word) λ place. next first place) (Is (S.Keyword word))
+worded_begins : (word : Keyword) {next : First → Place → Rule PropTree} → Begins (grammar.◌>>=◌ begins λ first. grammar.◌>>=◌ (keyword word) λ place. next first place) (Is (S.Reserved word))
 worded_begins word = first_begins λ first. begins_then (keyword_begins word)
 
-atom_of_term : (s : Sort) → BeginsTerm s → atom_by s ≡ comparison_at
+atom_of_term : (s : TokenKind) → BeginsTerm s → atom_by s ≡ comparison_at
 atom_of_term s number = refl
 atom_of_term s minus = refl
 atom_of_term s str = refl
@@ -105,15 +106,15 @@ atom_branches =
     or case (worded_begins K.Happens) happens_agrees or case (worded_begins K.HappensBefore) (dated_agrees K.HappensBefore P.Before) or case (worded_begins K.HappensAfter) (dated_agrees K.HappensAfter P.After)
     or case (worded_begins K.HappensWithin) happens_within_agrees or case (worded_begins K.Occurs) occurs_agrees or case (worded_begins K.Holds) holds_agrees
 
-atom_covers : (s : Sort) → atom_branches.Here s ⊎ (atom_by s ≡ fail)
-atom_covers (S.Keyword K.True) = inl (inl (inl (inl (inl (inl (inl (inl (inl refl))))))))
-atom_covers (S.Keyword K.False) = inl (inl (inl (inl (inl (inl (inl (inl (inr refl))))))))
-atom_covers (S.Keyword K.Happens) = inl (inl (inl (inl (inl (inl (inr refl))))))
-atom_covers (S.Keyword K.HappensBefore) = inl (inl (inl (inl (inl (inr refl)))))
-atom_covers (S.Keyword K.HappensAfter) = inl (inl (inl (inl (inr refl))))
-atom_covers (S.Keyword K.HappensWithin) = inl (inl (inl (inr refl)))
-atom_covers (S.Keyword K.Occurs) = inl (inl (inr refl))
-atom_covers (S.Keyword K.Holds) = inl (inr refl)
+atom_covers : (s : TokenKind) → atom_branches.Here s ⊎ (atom_by s ≡ fail)
+atom_covers (S.Reserved K.True) = inl (inl (inl (inl (inl (inl (inl (inl (inl refl))))))))
+atom_covers (S.Reserved K.False) = inl (inl (inl (inl (inl (inl (inl (inl (inr refl))))))))
+atom_covers (S.Reserved K.Happens) = inl (inl (inl (inl (inl (inl (inr refl))))))
+atom_covers (S.Reserved K.HappensBefore) = inl (inl (inl (inl (inl (inr refl)))))
+atom_covers (S.Reserved K.HappensAfter) = inl (inl (inl (inl (inr refl))))
+atom_covers (S.Reserved K.HappensWithin) = inl (inl (inl (inr refl)))
+atom_covers (S.Reserved K.Occurs) = inl (inl (inr refl))
+atom_covers (S.Reserved K.Holds) = inl (inr refl)
 atom_covers s = inl (inl (inl (inl (inl (inl (inl (inr refl)))))))
 
 atom_agrees : Agrees atom atom_at (Ends 3)
@@ -127,11 +128,11 @@ atom_begins =
     (begins_as (worded_begins K.Happens) (refl, refl, refl))) (begins_as (worded_begins K.HappensBefore) (refl, refl, refl))) (begins_as (worded_begins K.HappensAfter) (refl, refl, refl)))
     (begins_as (worded_begins K.HappensWithin) (refl, refl, refl))) (begins_as (worded_begins K.Occurs) (refl, refl, refl))) (begins_as (worded_begins K.Holds) (refl, refl, refl))
 
-chain_agrees : {R : Rule PropTree} {r : Reading PropTree} (j k : ℕ) (word : Keyword) (node : List PropTree → First → PropTree) → j < rank (S.Keyword word) → rank (S.Keyword word) ≤ k → Agrees R r (Ends j)
+chain_agrees : {R : Rule PropTree} {r : Reading PropTree} (j k : ℕ) (word : Keyword) (node : List PropTree → First → PropTree) → j < rank (S.Reserved word) → rank (S.Reserved word) ≤ k → Agrees R r (Ends j)
     → Agrees (chain word node R) (chain_at word node r) (Ends k)
 unfolding chain_at
 chain_agrees j k word node above under one = then_any begins_agrees λ first. first_and_many (joined node first) one
-    (loop_while j k (S.Keyword word) above under (then_any (keyword_agrees word) λ _. one) (takes_then (keyword_takes word) λ _. one) (begins_then (keyword_begins word)))
+    (loop_while j k (S.Reserved word) above under (then_any (keyword_agrees word) λ _. one) (takes_then (keyword_takes word) λ _. one) (begins_then (keyword_begins word)))
 
 module _ {R : Rule PropTree} {r : Reading PropTree} (deeper : Agrees R r (Ends 3)) where
   prop_of_agrees : Agrees (prop_of R) (prop_of_at r) (Ends 5)
@@ -143,8 +144,8 @@ module _ {R : Rule PropTree} {r : Reading PropTree} (deeper : Agrees R r (Ends 3
   brackets_agree : Agrees (brackets R) (brackets_at r) Any
   brackets_agree = then_any (sign_agrees Open) λ place. node_agrees (in_brackets place) (before_agrees Close prop_of_agrees (ends_at 5 (S.Sign Close) (omega arith)))
 
-neg_of_atom : (deeper : Reading PropTree) (s : Sort) → OfAtom s → neg_by deeper s ≡ atom_at
-neg_of_atom deeper (S.Keyword K.Not) of = let e = of.1 in absurd cc
+neg_of_atom : (deeper : Reading PropTree) (s : TokenKind) → OfAtom s → neg_by deeper s ≡ atom_at
+neg_of_atom deeper (S.Reserved K.Not) of = let e = of.1 in absurd cc
 neg_of_atom deeper (S.Sign Sg.Open) of = let e = of.2 in absurd cc
 neg_of_atom deeper s of = refl
 
@@ -152,8 +153,8 @@ module _ {R : Rule PropTree} {r : Reading PropTree} (deeper : Agrees R r (Ends 3
   abbrev neg_branches : Branches (grammar.◌or◌ (grammar.◌or◌ (negation R) (brackets R)) atom) (neg_by r) (Ends 3)
   neg_branches = case_at (worded_begins K.Not) (negation_agrees deeper) or case (begins_then (sign_begins Open)) (brackets_agree deeper) or branch atom_begins (neg_of_atom r) atom_agrees
 
-  neg_covers : (s : Sort) → neg_branches.Here s ⊎ (neg_by r s ≡ fail)
-  neg_covers (S.Keyword K.Not) = inl (inl (inl refl))
+  neg_covers : (s : TokenKind) → neg_branches.Here s ⊎ (neg_by r s ≡ fail)
+  neg_covers (S.Reserved K.Not) = inl (inl (inl refl))
   neg_covers (S.Sign Sg.Open) = inl (inl (inr refl))
   neg_covers s = inl (inr refl)
 

@@ -2,7 +2,7 @@
 use Rattle.std.proofs.Common.{◌≡◌, List, [], ◌∷◌, Ok, Err, refl}
 use Rattle.sy_tree.specs.declared.contract.SpecTree.{SpecTree}
 use Rattle.sy_tree.specs.declared.binding.BindTree.{BindTree}
-use Rattle.sy_tree.specs.Lexemes.{Lexeme}
+use Rattle.sy_lex.specs.Lexemes.{Lexeme}
 use Rattle.sy_tree.specs.Grammar.{Rule}
 use Rattle.sy_tree.specs.Spelling.{SpellsSpec, SpellsBinding}
 use Rattle.sy_reader.specs.Reader.{Read, Reading}

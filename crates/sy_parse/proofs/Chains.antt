@@ -1,16 +1,16 @@
 -- Reading parts with a word between them.
 use Rattle.std.proofs.Common.{◌≡◌, ℕ, zero, suc, ◌+◌, ◌-◌, ◌≤◌, ◌<◌, Bool, true, false, List, [], ◌∷◌, ◌++◌, length, Result, Ok, Err, refl, sym, ap, ◌∙◌, arith}
 use Rattle.sy_lex.specs.declared.keyword.Keyword.{Keyword}
-use Rattle.sy_tree.specs.Lexemes.{Lexeme}
+use Rattle.sy_lex.specs.Lexemes.{Lexeme}
 use Rattle.sy_tree.specs.Propositions.{joined}
-use Rattle.sy_tree.specs.declared.sort.Sort.{Sort}
-use Rattle.sy_tree.specs.declared.sort.Sort.TheVariants as S
+use Rattle.sy_lex.specs.declared.token.TokenKind.{TokenKind}
+use Rattle.sy_lex.specs.declared.token.TokenKind.TheVariants as S
 use Rattle.sy_tree.specs.declared.proposition.First.{First}
 use Rattle.sy_tree.specs.declared.proposition.PropTree.{PropTree}
 use Rattle.sy_reader.specs.declared.fault.Fault.{Fault}
 use Rattle.sy_reader.specs.declared.fault.Fault.TheVariants as F
-use Rattle.sy_reader.specs.Reader.{Read, Reading, Reads, and_then, give, and_more, with_first, next_passes, while_at, many_at, is_sort, begins_with, first_of}
-use Rattle.sy_parse.specs.ReadingPropositions.{begins_at, link_at, links_at, chain_at, neg_at, neg_of_at, atom_at}
+use Rattle.sy_reader.specs.Reader.{Read, Reading, Reads, and_then, give, and_more, with_first, next_passes, while_at, many_at, is_kind, begins_with}
+use Rattle.sy_parse.specs.ReadingPropositions.{first_of, begins_at, link_at, links_at, chain_at, neg_at, neg_of_at, atom_at}
 use Rattle.sy_reader.proofs.Loops.{one_fails, turn_ends, while_first}
 
 abbrev node_of : (List PropTree → First → PropTree) → First → PropTree → Read (List PropTree) → Read PropTree
@@ -37,16 +37,16 @@ module _ (word : Keyword) (node : List PropTree → First → PropTree) (part : 
 
   module _ (l : Lexeme) (others : List Lexeme) (is : old ≡ l ∷ others) (one : PropTree) (mid : List Lexeme) (found : part old ≡ Ok (one, mid)) where
     -- one part alone
-    pub chain_one : begins_with (S.Keyword word) mid ≡ false → chain_at word node part old ≡ Ok (one, mid)
+    pub chain_one : begins_with (S.Reserved word) mid ≡ false → chain_at word node part old ≡ Ok (one, mid)
     unfolding while_at
     chain_one stops = whole l others is one mid found ∙ alone mid stops
       where
-        alone : (mid : List Lexeme) → begins_with (S.Keyword word) mid ≡ false → node_of node (first_of l) one (links_at word part mid) ≡ Ok (one, mid)
+        alone : (mid : List Lexeme) → begins_with (S.Reserved word) mid ≡ false → node_of node (first_of l) one (links_at word part mid) ≡ Ok (one, mid)
         alone [] stops = refl
         alone (m ∷ ms) stops = rw stops refl
 
     -- more parts
-    pub chain_more : (parts : List PropTree) (rest : List Lexeme) → begins_with (S.Keyword word) mid ≡ true → and_more (one ∷ []) (links_at word part) mid ≡ Ok (parts, rest)
+    pub chain_more : (parts : List PropTree) (rest : List Lexeme) → begins_with (S.Reserved word) mid ≡ true → and_more (one ∷ []) (links_at word part) mid ≡ Ok (parts, rest)
         → chain_at word node part old ≡ Ok (node parts (first_of l), rest)
     chain_more parts rest goes e = whole l others is one mid found ∙ several mid goes e
       where
@@ -54,15 +54,15 @@ module _ (word : Keyword) (node : List PropTree → First → PropTree) (part : 
         taken x (Ok y) e = ap (λ (r : Read (List PropTree)). and_then r (λ xs. give (node xs (first_of l)))) e
         taken x (Err left) e = absurd cc
 
-        behind : (read : Read PropTree) (n : ℕ) → and_then (and_then read (λ x more. with_first x (while_at (λ sort. is_sort sort (S.Keyword word)) (link_at word part) n more))) (λ xs. give ((one ∷ []) ++ xs)) ≡ Ok (parts, rest)
-            → node_of node (first_of l) one (and_then read (λ x more. with_first x (while_at (λ sort. is_sort sort (S.Keyword word)) (link_at word part) n more))) ≡ Ok (node parts (first_of l), rest)
-        behind (Ok y) n e = taken y.0 (while_at (λ sort. is_sort sort (S.Keyword word)) (link_at word part) n y.1) e
+        behind : (read : Read PropTree) (n : ℕ) → and_then (and_then read (λ x more. with_first x (while_at (λ kind. is_kind kind (S.Reserved word)) (link_at word part) n more))) (λ xs. give ((one ∷ []) ++ xs)) ≡ Ok (parts, rest)
+            → node_of node (first_of l) one (and_then read (λ x more. with_first x (while_at (λ kind. is_kind kind (S.Reserved word)) (link_at word part) n more))) ≡ Ok (node parts (first_of l), rest)
+        behind (Ok y) n e = taken y.0 (while_at (λ kind. is_kind kind (S.Reserved word)) (link_at word part) n y.1) e
         behind (Err left) n e = absurd cc
 
-        several : (mid : List Lexeme) → begins_with (S.Keyword word) mid ≡ true → and_more (one ∷ []) (links_at word part) mid ≡ Ok (parts, rest) → node_of node (first_of l) one (links_at word part mid) ≡ Ok (node parts (first_of l), rest)
+        several : (mid : List Lexeme) → begins_with (S.Reserved word) mid ≡ true → and_more (one ∷ []) (links_at word part) mid ≡ Ok (parts, rest) → node_of node (first_of l) one (links_at word part mid) ≡ Ok (node parts (first_of l), rest)
         several [] goes e = absurd cc
         several (m ∷ ms) goes e =
-            let first = while_first (λ sort. is_sort sort (S.Keyword word)) (link_at word part) (length ms) (m ∷ ms) goes in
+            let first = while_first (λ kind. is_kind kind (S.Reserved word)) (link_at word part) (length ms) (m ∷ ms) goes in
             rw first (behind (link_at word part (m ∷ ms)) (length ms) (rw first at e))
 
     -- further parts can't be read
@@ -75,7 +75,7 @@ module _ (word : Keyword) (node : List PropTree → First → PropTree) (part : 
         lost (Err n) e = cc
 
 -- the loops over the parts behind a word, which begin with one part
-module _ (test : Sort → Bool) (item : Reading PropTree) (one : PropTree) (front : List PropTree) (old rest : List Lexeme) (start : List PropTree) where
+module _ (test : TokenKind → Bool) (item : Reading PropTree) (one : PropTree) (front : List PropTree) (old rest : List Lexeme) (start : List PropTree) where
   pub link_fails : (fault : Fault) (new : List Lexeme) → start ≡ one ∷ [] → next_passes test rest ≡ true → Reads {A = PropTree} (Err fault) rest new item → length rest + length front ≤ length old + 1
       → and_more front (while_at test item (length old + 1 - length front)) rest ≡ and_more start (while_at test item (length old)) old
       → Reads {A = List PropTree} (Err fault) old new (and_more (one ∷ []) (many_at test item))

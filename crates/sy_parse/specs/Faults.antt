@@ -7,7 +7,7 @@ use Rattle.sy_base.specs.declared.refusal.Refused.{Refused}
 use Rattle.sy_base.specs.declared.refusal.Refused.TheVariants as R
 use Rattle.sy_lex.specs.declared.token.Token.{Token}
 use Rattle.sy_lex.specs.Tokens.{end_of}
-use Rattle.sy_tree.specs.Lexemes.{text_of}
+use Rattle.sy_lex.specs.Lexemes.{text_of}
 
 -- a refusal for syntax at the first of these tokens, with its text, or at the end, without words
 abbrev pub syntax_fault : FileKind → List ℕ → List Token → Refusal

@@ -1,3 +1,4 @@
+pub mod ReadingLines
 pub mod ReadingTerms
 pub mod ReadingPropositions
 pub mod ReadingSpecifications

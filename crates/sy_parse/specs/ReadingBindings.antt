@@ -3,8 +3,8 @@ use Rattle.std.specs.Prelude.{true, false, if◌then◌else◌}
 use Rattle.sy_lex.specs.declared.keyword.Keyword.TheVariants as K
 use Rattle.sy_lex.specs.declared.sign.Sign.TheVariants as Sg
 use Rattle.sy_lex.specs.declared.sign.Sign.TheVariants.{Semicolon, OpenBrace, CloseBrace, Assign, Minus}
-use Rattle.sy_tree.specs.declared.sort.Sort.{Sort}
-use Rattle.sy_tree.specs.declared.sort.Sort.TheVariants as S
+use Rattle.sy_lex.specs.declared.token.TokenKind.{TokenKind}
+use Rattle.sy_lex.specs.declared.token.TokenKind.TheVariants as S
 use Rattle.sy_tree.specs.declared.binding.BindTree.{BindTree}
 use Rattle.sy_tree.specs.declared.binding.GivenTree.{GivenTree}
 use Rattle.sy_tree.specs.declared.binding.BoundTree.{BoundTree}
@@ -12,7 +12,8 @@ use Rattle.sy_tree.specs.declared.binding.BoundTree.TheVariants as Bound
 use Rattle.sy_tree.specs.declared.binding.FieldTree.{FieldTree}
 use Rattle.sy_tree.specs.declared.binding.ValueTree.{ValueTree}
 use Rattle.sy_tree.specs.declared.binding.ValueTree.TheVariants as Value
-use Rattle.sy_reader.specs.Reader.{Reading, ◌>>=◌, give, begins_with, token_at, keyword_at, sign_at, by_next, before_at, maybe_listed_at, ended_at}
+use Rattle.sy_reader.specs.Reader.{Reading, ◌>>=◌, give, begins_with, token_at, keyword_at, sign_at, by_next, before_at, maybe_listed_at}
+use Rattle.sy_parse.specs.ReadingLines.{ended_at}
 
 abbrev pub negative_value_at : Reading ValueTree
 negative_value_at = do
@@ -20,21 +21,21 @@ negative_value_at = do
   number ← token_at S.Number
   give (Value.Negative place number)
 
-abbrev pub value_by : Sort → Reading ValueTree
+abbrev pub value_by : TokenKind → Reading ValueTree
 value_by S.Number = token_at S.Number >>= λ x. give (Value.Number x)
 value_by (S.Sign Sg.Minus) = negative_value_at
 value_by S.Str = token_at S.Str >>= λ x. give (Value.Str x)
 value_by S.Date = token_at S.Date >>= λ x. give (Value.Date x)
-value_by (S.Keyword K.True) = keyword_at K.True >>= λ place. give (Value.Const true place)
-value_by (S.Keyword K.False) = keyword_at K.False >>= λ place. give (Value.Const false place)
-value_by sort = token_at S.Name >>= λ x. give (Value.Name x)
+value_by (S.Reserved K.True) = keyword_at K.True >>= λ place. give (Value.Const true place)
+value_by (S.Reserved K.False) = keyword_at K.False >>= λ place. give (Value.Const false place)
+value_by kind = token_at S.Word >>= λ x. give (Value.Name x)
 
 unfoldable pub value_at : Reading ValueTree
 value_at = by_next value_by
 
 unfoldable pub field_at : Reading FieldTree
 field_at = do
-  name ← before_at (token_at S.Name) Assign
+  name ← before_at (token_at S.Word) Assign
   value ← value_at
   give (record { name = name; value = value })
 
@@ -52,7 +53,7 @@ bound_at lexemes =
 
 unfoldable pub given_at : Reading GivenTree
 given_at = do
-  name ← before_at (token_at S.Name) Assign
+  name ← before_at (token_at S.Word) Assign
   bound ← bound_at
   give (record { name = name; bound = bound })
 

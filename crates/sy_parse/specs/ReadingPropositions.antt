@@ -4,16 +4,21 @@ use Rattle.sy_lex.specs.declared.keyword.Keyword.{Keyword}
 use Rattle.sy_lex.specs.declared.keyword.Keyword.TheVariants as K
 use Rattle.sy_lex.specs.declared.sign.Sign.TheVariants as Sg
 use Rattle.sy_lex.specs.declared.sign.Sign.TheVariants.{Comma, Open, Close}
-use Rattle.sy_tree.specs.declared.sort.Sort.{Sort}
-use Rattle.sy_tree.specs.declared.sort.Sort.TheVariants as S
+use Rattle.sy_lex.specs.declared.token.TokenKind.{TokenKind}
+use Rattle.sy_lex.specs.declared.token.TokenKind.TheVariants as S
+use Rattle.sy_lex.specs.Lexemes.{Lexeme, written}
 use Rattle.sy_tree.specs.declared.proposition.First.{First}
 use Rattle.sy_tree.specs.declared.proposition.PropTree.{PropTree}
 use Rattle.sy_tree.specs.declared.proposition.PropTree.TheVariants as P
 use Rattle.sy_tree.specs.declared.proposition.EventTree.{EventTree}
 use Rattle.sy_tree.specs.declared.date.DateTree.{DateTree}
 use Rattle.sy_tree.specs.Propositions.{in_brackets, joined}
-use Rattle.sy_reader.specs.Reader.{Reading, ◌>>=◌, give, ahead_at, keyword_at, sign_at, by_next, is_sort, many_at, before_at, between_at}
+use Rattle.sy_reader.specs.Reader.{Reading, ◌>>=◌, give, ahead_at, keyword_at, sign_at, by_next, is_kind, many_at, before_at, between_at}
 use Rattle.sy_parse.specs.ReadingTerms.{term_at, cmp_at, rhs_at, event_at, situation_at, date_at}
+
+-- a lexeme as the first token of a proposition without brackets
+abbrev pub first_of : Lexeme → First
+first_of l = record { token = written l; bracket = None }
 
 unfoldable pub begins_at : Reading First
 begins_at = do
@@ -85,16 +90,16 @@ holds_at = do
   situation ← between_at Open situation_at Close
   give (P.Holds situation first)
 
-abbrev pub atom_by : Sort → Reading PropTree
-atom_by (S.Keyword K.True) = constant_at K.True true
-atom_by (S.Keyword K.False) = constant_at K.False false
-atom_by (S.Keyword K.Happens) = happens_at
-atom_by (S.Keyword K.HappensBefore) = dated_at K.HappensBefore P.Before
-atom_by (S.Keyword K.HappensAfter) = dated_at K.HappensAfter P.After
-atom_by (S.Keyword K.HappensWithin) = happens_within_at
-atom_by (S.Keyword K.Occurs) = occurs_at
-atom_by (S.Keyword K.Holds) = holds_at
-atom_by sort = comparison_at
+abbrev pub atom_by : TokenKind → Reading PropTree
+atom_by (S.Reserved K.True) = constant_at K.True true
+atom_by (S.Reserved K.False) = constant_at K.False false
+atom_by (S.Reserved K.Happens) = happens_at
+atom_by (S.Reserved K.HappensBefore) = dated_at K.HappensBefore P.Before
+atom_by (S.Reserved K.HappensAfter) = dated_at K.HappensAfter P.After
+atom_by (S.Reserved K.HappensWithin) = happens_within_at
+atom_by (S.Reserved K.Occurs) = occurs_at
+atom_by (S.Reserved K.Holds) = holds_at
+atom_by kind = comparison_at
 
 unfoldable pub atom_at : Reading PropTree
 atom_at = by_next atom_by
@@ -105,7 +110,7 @@ link_at word part = keyword_at word >>= λ _. part
 
 -- what stands behind each word
 abbrev pub links_at : Keyword → Reading PropTree → Reading (List PropTree)
-links_at word part = many_at (λ sort. is_sort sort (S.Keyword word)) (link_at word part)
+links_at word part = many_at (λ kind. is_kind kind (S.Reserved word)) (link_at word part)
 
 unfoldable pub chain_at : Keyword → (List PropTree → First → PropTree) → Reading PropTree → Reading PropTree
 chain_at word node part = do
@@ -133,10 +138,10 @@ brackets_at neg = do
   inside ← before_at (prop_of_at neg) Close
   give (in_brackets place inside)
 
-abbrev pub neg_by : Reading PropTree → Sort → Reading PropTree
-neg_by deeper (S.Keyword K.Not) = negation_at deeper
+abbrev pub neg_by : Reading PropTree → TokenKind → Reading PropTree
+neg_by deeper (S.Reserved K.Not) = negation_at deeper
 neg_by deeper (S.Sign Sg.Open) = brackets_at deeper
-neg_by deeper sort = atom_at
+neg_by deeper kind = atom_at
 
 abbrev pub neg_of_at : Reading PropTree → Reading PropTree
 neg_of_at deeper = by_next (neg_by deeper)

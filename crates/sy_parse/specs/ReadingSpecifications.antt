@@ -8,9 +8,9 @@ use Rattle.sy_core.specs.declared.position.Verb.TheVariants as V
 use Rattle.sy_lex.specs.declared.keyword.Keyword.{Keyword}
 use Rattle.sy_lex.specs.declared.keyword.Keyword.TheVariants as K
 use Rattle.sy_lex.specs.declared.sign.Sign.TheVariants.{Colon, Comma, Open, Close, Assign, Arrow}
-use Rattle.sy_tree.specs.declared.sort.Sort.{Sort}
-use Rattle.sy_tree.specs.declared.sort.Sort.TheVariants as S
-use Rattle.sy_tree.specs.declared.written.Written.{Written}
+use Rattle.sy_lex.specs.declared.token.TokenKind.{TokenKind}
+use Rattle.sy_lex.specs.declared.token.TokenKind.TheVariants as S
+use Rattle.sy_lex.specs.declared.written.Written.{Written}
 use Rattle.sy_tree.specs.declared.domain.DomainTree.{DomainTree}
 use Rattle.sy_tree.specs.declared.domain.TypeTree.{TypeTree}
 use Rattle.sy_tree.specs.declared.domain.TypeTree.TheVariants as AType
@@ -29,50 +29,51 @@ use Rattle.sy_tree.specs.declared.position.PowerTree.{PowerTree}
 use Rattle.sy_tree.specs.declared.position.ActTree.{ActTree}
 use Rattle.sy_tree.specs.declared.position.VerbTree.{VerbTree}
 use Rattle.sy_tree.specs.declared.proposition.PropTree.{PropTree}
-use Rattle.sy_tree.specs.Lexemes.{Lexeme}
+use Rattle.sy_lex.specs.Lexemes.{Lexeme}
 use Rattle.sy_reader.specs.declared.fault.Fault.{Fault}
 use Rattle.sy_reader.specs.declared.fault.Fault.TheVariants as F
-use Rattle.sy_reader.specs.Reader.{Read, Reading, ◌>>=◌, give, fail, begins_with, token_at, keyword_at, by_next, before_at, between_at, listed_at, maybe_listed_at, ended_at}
+use Rattle.sy_reader.specs.Reader.{Read, Reading, ◌>>=◌, give, fail, begins_with, token_at, keyword_at, by_next, before_at, between_at, listed_at, maybe_listed_at}
+use Rattle.sy_parse.specs.ReadingLines.{ended_at}
 use Rattle.sy_parse.specs.ReadingTerms.{rhs_at, target_at}
 use Rattle.sy_parse.specs.ReadingPropositions.{prop_at}
 
 unfoldable pub enumeration_at : Reading EnumTree
 enumeration_at = do
   _ ← keyword_at K.Enumeration
-  constants ← between_at Open (listed_at (token_at S.Name)) Close
+  constants ← between_at Open (listed_at (token_at S.Word)) Close
   give (record { constants = constants })
 
-abbrev pub base_by : Sort → Reading BaseTree
-base_by (S.Keyword K.Role) = keyword_at K.Role >>= λ place. give (Base.Role place)
-base_by (S.Keyword K.Asset) = keyword_at K.Asset >>= λ place. give (Base.Asset place)
-base_by (S.Keyword K.Event) = keyword_at K.Event >>= λ place. give (Base.Event place)
-base_by sort = token_at S.Name >>= λ name. give (Base.Named name)
+abbrev pub base_by : TokenKind → Reading BaseTree
+base_by (S.Reserved K.Role) = keyword_at K.Role >>= λ place. give (Base.Role place)
+base_by (S.Reserved K.Asset) = keyword_at K.Asset >>= λ place. give (Base.Asset place)
+base_by (S.Reserved K.Event) = keyword_at K.Event >>= λ place. give (Base.Event place)
+base_by kind = token_at S.Word >>= λ name. give (Base.Named name)
 
 unfoldable pub base_at : Reading BaseTree
 base_at = by_next base_by
 
 abbrev pub env_at : Reading (Option Place)
 env_at lexemes =
-    if begins_with (S.Keyword K.Env) lexemes
+    if begins_with (S.Reserved K.Env) lexemes
     then (keyword_at K.Env >>= λ place. give (Some place)) lexemes
     else Ok (None, lexemes)
 
 unfoldable pub attr_at : Reading AttrTree
 attr_at = do
   env ← env_at
-  name ← before_at (token_at S.Name) Colon
-  type_name ← token_at S.Name
+  name ← before_at (token_at S.Word) Colon
+  type_name ← token_at S.Word
   give (record { env = env; name = name; type_name = type_name })
 
 abbrev pub with_listed_at : {A : Type 0} → Reading A → Reading (List A)
 with_listed_at reading lexemes =
-    if begins_with (S.Keyword K.With) lexemes
+    if begins_with (S.Reserved K.With) lexemes
     then (keyword_at K.With >>= λ _. listed_at reading) lexemes
     else Ok ([], lexemes)
 
 abbrev pub is_a_at : Reading Place
 is_a_at lexemes =
-    if begins_with (S.Keyword K.IsAn) lexemes then keyword_at K.IsAn lexemes else keyword_at K.IsA lexemes
+    if begins_with (S.Reserved K.IsAn) lexemes then keyword_at K.IsAn lexemes else keyword_at K.IsA lexemes
 
 abbrev pub derived_at : Written → Reading TypeTree
 derived_at name = do
@@ -82,20 +83,20 @@ derived_at name = do
 
 abbrev pub body_at : Written → Reading TypeTree
 body_at name lexemes =
-    if begins_with (S.Keyword K.Enumeration) lexemes
+    if begins_with (S.Reserved K.Enumeration) lexemes
     then (enumeration_at >>= λ constants. give (AType.Enumeration name constants)) lexemes
     else derived_at name lexemes
 
 unfoldable pub type_at : Reading TypeTree
 type_at = do
-  name ← token_at S.Name
+  name ← token_at S.Word
   _ ← is_a_at
   body_at name
 
 unfoldable pub domain_at : Reading DomainTree
 domain_at = do
   _ ← keyword_at K.Domain
-  name ← token_at S.Name
+  name ← token_at S.Word
   types ← ended_at type_at
   _ ← keyword_at K.EndDomain
   give (record { name = name; types = types })
@@ -110,46 +111,46 @@ abbrev pub unit_of_at : Option TimeUnit → Keyword → Reading UnitTree
 unit_of_at (Some unit) word = keyword_at word >>= λ place. give (record { unit = unit; place = place })
 unit_of_at None word = fail
 
-abbrev pub unit_by : Sort → Reading UnitTree
-unit_by (S.Keyword word) = unit_of_at (unit_of_word word) word
-unit_by sort = fail
+abbrev pub unit_by : TokenKind → Reading UnitTree
+unit_by (S.Reserved word) = unit_of_at (unit_of_word word) word
+unit_by kind = fail
 
 unfoldable pub unit_at : Reading UnitTree
 unit_at = by_next unit_by
 
 unfoldable pub param_at : Reading ParamTree
 param_at = do
-  name ← before_at (token_at S.Name) Colon
-  type_name ← token_at S.Name
+  name ← before_at (token_at S.Word) Colon
+  type_name ← token_at S.Word
   give (record { name = name; type_name = type_name })
 
 unfoldable pub give_at : Reading GiveTree
 give_at = do
-  name ← before_at (token_at S.Name) Assign
+  name ← before_at (token_at S.Word) Assign
   value ← rhs_at
   give (record { name = name; value = value })
 
 unfoldable pub decl_at : Reading DeclTree
 decl_at = do
-  name ← before_at (token_at S.Name) Colon
-  type_name ← token_at S.Name
+  name ← before_at (token_at S.Word) Colon
+  type_name ← token_at S.Word
   gives ← with_listed_at give_at
   give (record { name = name; type_name = type_name; gives = gives })
 
 -- a trigger, unless the word stands there that would follow it
 unfoldable pub trigger_at : Keyword → Reading (Option PropTree)
 trigger_at word lexemes =
-    if begins_with (S.Keyword word) lexemes
+    if begins_with (S.Reserved word) lexemes
     then Ok (None, lexemes)
     else (before_at prop_at Arrow >>= λ x. give (Some x)) lexemes
 
 unfoldable pub oblig_at : Reading ObligTree
 oblig_at = do
-  name ← before_at (token_at S.Name) Colon
+  name ← before_at (token_at S.Word) Colon
   trigger ← trigger_at K.O
   _ ← keyword_at K.O
-  debtor ← between_at Open (token_at S.Name) Comma
-  creditor ← before_at (token_at S.Name) Comma
+  debtor ← between_at Open (token_at S.Word) Comma
+  creditor ← before_at (token_at S.Word) Comma
   antecedent ← before_at prop_at Comma
   consequent ← before_at prop_at Close
   give (record { name = name; trigger = trigger; debtor = debtor; creditor = creditor; antecedent = antecedent; consequent = consequent })
@@ -166,9 +167,9 @@ abbrev pub verb_of_at : Option Verb → Keyword → Reading VerbTree
 verb_of_at (Some verb) word = keyword_at word >>= λ place. give (record { verb = verb; place = place })
 verb_of_at None word = fail
 
-abbrev pub verb_by : Sort → Reading VerbTree
-verb_by (S.Keyword word) = verb_of_at (verb_of_word word) word
-verb_by sort = fail
+abbrev pub verb_by : TokenKind → Reading VerbTree
+verb_by (S.Reserved word) = verb_of_at (verb_of_word word) word
+verb_by kind = fail
 
 unfoldable pub verb_at : Reading VerbTree
 verb_at = by_next verb_by
@@ -181,31 +182,31 @@ act_at = do
 
 unfoldable pub power_at : Reading PowerTree
 power_at = do
-  name ← before_at (token_at S.Name) Colon
+  name ← before_at (token_at S.Word) Colon
   trigger ← trigger_at K.P
   _ ← keyword_at K.P
-  holder ← between_at Open (token_at S.Name) Comma
-  other_party ← before_at (token_at S.Name) Comma
+  holder ← between_at Open (token_at S.Word) Comma
+  other_party ← before_at (token_at S.Word) Comma
   antecedent ← before_at prop_at Comma
   act ← before_at act_at Close
   give (record { name = name; trigger = trigger; holder = holder; other_party = other_party; antecedent = antecedent; act = act })
 
 unfoldable pub section_at : {A : Type 0} → Keyword → Reading A → Reading (List A)
 section_at word line lexemes =
-    if begins_with (S.Keyword word) lexemes
+    if begins_with (S.Reserved word) lexemes
     then (keyword_at word >>= λ _. ended_at line) lexemes
     else Ok ([], lexemes)
 
 unfoldable pub surviving_at : Reading (List ObligTree)
 surviving_at lexemes =
-    if begins_with (S.Keyword K.Surviving) lexemes
+    if begins_with (S.Reserved K.Surviving) lexemes
     then (keyword_at K.Surviving >>= λ _. keyword_at K.Obligations >>= λ _. ended_at oblig_at) lexemes
     else Ok ([], lexemes)
 
 unfoldable pub contract_at : Reading ContractTree
 contract_at = do
   place ← keyword_at K.Contract
-  name ← token_at S.Name
+  name ← token_at S.Word
   parameters ← between_at Open (maybe_listed_at Close param_at) Close
   _ ← keyword_at K.Unit
   unit ← unit_at

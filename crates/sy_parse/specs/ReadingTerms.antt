@@ -11,9 +11,9 @@ use Rattle.sy_lex.specs.declared.keyword.Keyword.TheVariants as K
 use Rattle.sy_lex.specs.declared.sign.Sign.{Sign}
 use Rattle.sy_lex.specs.declared.sign.Sign.TheVariants as Sg
 use Rattle.sy_lex.specs.declared.sign.Sign.TheVariants.{Dot, Open, Close, OpenBracket, CloseBracket, Plus, Minus, Times}
-use Rattle.sy_tree.specs.declared.sort.Sort.{Sort}
-use Rattle.sy_tree.specs.declared.sort.Sort.TheVariants as S
-use Rattle.sy_tree.specs.declared.written.Written.{Written}
+use Rattle.sy_lex.specs.declared.token.TokenKind.{TokenKind}
+use Rattle.sy_lex.specs.declared.token.TokenKind.TheVariants as S
+use Rattle.sy_lex.specs.declared.written.Written.{Written}
 use Rattle.sy_tree.specs.declared.position.TargetTree.{TargetTree}
 use Rattle.sy_tree.specs.declared.position.TargetTree.TheVariants as Target
 use Rattle.sy_tree.specs.declared.term.RhsTree.{RhsTree}
@@ -38,14 +38,14 @@ use Rattle.sy_tree.specs.declared.proposition.EventTree.{EventTree}
 use Rattle.sy_tree.specs.declared.proposition.EventTree.TheVariants as Event
 use Rattle.sy_tree.specs.declared.proposition.GuardTree.{GuardTree}
 use Rattle.sy_tree.specs.declared.proposition.SituationTree.{SituationTree}
-use Rattle.sy_tree.specs.Lexemes.{Lexeme}
+use Rattle.sy_lex.specs.Lexemes.{Lexeme}
 use Rattle.sy_reader.specs.Reader.{Reading, ◌>>=◌, give, fail, begins_with, token_at, keyword_at, sign_at, by_next, many_at, behind_at, between_at, each_behind, all_behind, listed_at}
 
 -- what stands behind a dot, if one is there
 abbrev pub maybe_attribute : Reading (Option Written)
 maybe_attribute lexemes =
     if begins_with (S.Sign Dot) lexemes
-    then (behind_at Dot (token_at S.Name) >>= λ x. give (Some x)) lexemes
+    then (behind_at Dot (token_at S.Word) >>= λ x. give (Some x)) lexemes
     else Ok (None, lexemes)
 
 abbrev pub path_of : Written → Written → Option Written → PathTree
@@ -59,7 +59,7 @@ inner_path name (Some attribute) = maybe_attribute >>= λ inner. give (path_of n
 
 unfoldable pub path_at : Reading PathTree
 path_at = do
-  name ← token_at S.Name
+  name ← token_at S.Word
   attribute ← maybe_attribute
   inner_path name attribute
 
@@ -69,12 +69,12 @@ negative_at = do
   number ← token_at S.Number
   give (Single.Negative place number)
 
-abbrev pub single_by : Sort → Reading SingleTree
+abbrev pub single_by : TokenKind → Reading SingleTree
 single_by S.Number = token_at S.Number >>= λ x. give (Single.Number x)
 single_by (S.Sign Sg.Minus) = negative_at
 single_by S.Str = token_at S.Str >>= λ x. give (Single.Str x)
 single_by S.Date = token_at S.Date >>= λ x. give (Single.Date x)
-single_by sort = path_at >>= λ x. give (Single.Path x)
+single_by kind = path_at >>= λ x. give (Single.Path x)
 
 unfoldable pub single_at : Reading SingleTree
 single_at = by_next single_by
@@ -85,17 +85,17 @@ factor_at = do
   others ← all_behind Times single_at
   give (record { first = first; others = others })
 
-abbrev pub sum_by : Sort → Reading SumTree
+abbrev pub sum_by : TokenKind → Reading SumTree
 sum_by (S.Sign Sg.Plus) = behind_at Plus factor_at >>= λ x. give (Sum.Plus x)
-sum_by sort = behind_at Minus factor_at >>= λ x. give (Sum.Minus x)
+sum_by kind = behind_at Minus factor_at >>= λ x. give (Sum.Minus x)
 
 unfoldable pub sum_at : Reading SumTree
 sum_at = by_next sum_by
 
-abbrev pub is_sum_sign : Sort → Bool
+abbrev pub is_sum_sign : TokenKind → Bool
 is_sum_sign (S.Sign Sg.Plus) = true
 is_sum_sign (S.Sign Sg.Minus) = true
-is_sum_sign sort = false
+is_sum_sign kind = false
 
 unfoldable pub term_at : Reading TermTree
 term_at = do
@@ -103,10 +103,10 @@ term_at = do
   others ← many_at is_sum_sign sum_at
   give (record { first = first; others = others })
 
-abbrev pub rhs_by : Sort → Reading RhsTree
-rhs_by (S.Keyword K.True) = keyword_at K.True >>= λ place. give (Rhs.Const true place)
-rhs_by (S.Keyword K.False) = keyword_at K.False >>= λ place. give (Rhs.Const false place)
-rhs_by sort = term_at >>= λ x. give (Rhs.Term x)
+abbrev pub rhs_by : TokenKind → Reading RhsTree
+rhs_by (S.Reserved K.True) = keyword_at K.True >>= λ place. give (Rhs.Const true place)
+rhs_by (S.Reserved K.False) = keyword_at K.False >>= λ place. give (Rhs.Const false place)
+rhs_by kind = term_at >>= λ x. give (Rhs.Term x)
 
 unfoldable pub rhs_at : Reading RhsTree
 rhs_at = by_next rhs_by
@@ -124,22 +124,22 @@ abbrev pub compares_at : Option Cmp → Sign → Reading CmpTree
 compares_at (Some cmp) s = sign_at s >>= λ place. give (record { cmp = cmp; place = place })
 compares_at None s = fail
 
-abbrev pub cmp_by : Sort → Reading CmpTree
+abbrev pub cmp_by : TokenKind → Reading CmpTree
 cmp_by (S.Sign s) = compares_at (cmp_of_sign s) s
-cmp_by sort = fail
+cmp_by kind = fail
 
 unfoldable pub cmp_at : Reading CmpTree
 cmp_at = by_next cmp_by
 
 unfoldable pub target_at : Reading TargetTree
 target_at lexemes =
-    if begins_with (S.Keyword K.ThisContract) lexemes
+    if begins_with (S.Reserved K.ThisContract) lexemes
     then (keyword_at K.ThisContract >>= λ place. give (Target.Contract place)) lexemes
-    else (token_at S.Name >>= λ x. give (Target.Named x)) lexemes
+    else (token_at S.Word >>= λ x. give (Target.Named x)) lexemes
 
 unfoldable pub guard_at : Reading GuardTree
 guard_at = do
-  name ← token_at S.Name
+  name ← token_at S.Word
   cmp ← cmp_at
   value ← rhs_at
   give (record { name = name; cmp = cmp; value = value })
@@ -153,7 +153,7 @@ guards_at lexemes =
 
 abbrev pub declared_at : Reading EventTree
 declared_at = do
-  name ← token_at S.Name
+  name ← token_at S.Word
   guards ← guards_at
   give (Event.Declared name guards)
 
@@ -175,14 +175,14 @@ abbrev pub kind_and_word : Option Kind → Keyword → Option (Kind × Keyword)
 kind_and_word (Some kind) word = Some (kind, word)
 kind_and_word None word = None
 
-abbrev pub kind_of_sort : Sort → Option (Kind × Keyword)
-kind_of_sort (S.Keyword word) = kind_and_word (kind_of_word word) word
-kind_of_sort sort = None
+abbrev pub kind_of_token : TokenKind → Option (Kind × Keyword)
+kind_of_token (S.Reserved word) = kind_and_word (kind_of_word word) word
+kind_of_token kind = None
 
 -- the kind that the next lexeme names, with its word
 abbrev pub next_kind : List Lexeme → Option (Kind × Keyword)
 next_kind [] = None
-next_kind (l ∷ ls) = kind_of_sort l.sort
+next_kind (l ∷ ls) = kind_of_token l.kind
 
 abbrev pub internal_or_declared : Option (Kind × Keyword) → Reading EventTree
 internal_or_declared (Some internal) = do
@@ -205,7 +205,7 @@ situation_at = do
   place ← keyword_at K.State
   target ← between_at Open target_at Close
   equal ← equality_at
-  state ← token_at S.Name
+  state ← token_at S.Word
   give (record { place = place; target = target; equal = equal; state = state })
 
 abbrev pub measure_of_word : Keyword → Option Measure
@@ -220,12 +220,12 @@ measure_of_word K.Weeks = Some M.Weeks
 measure_of_word word = None
 
 abbrev pub measured_at : Option Measure → Keyword → Reading MeasureTree
-measured_at (Some measure) word = token_at (S.Keyword word) >>= λ x. give (record { measure = measure; word = x })
+measured_at (Some measure) word = token_at (S.Reserved word) >>= λ x. give (record { measure = measure; word = x })
 measured_at None word = fail
 
-abbrev pub measure_by : Sort → Reading MeasureTree
-measure_by (S.Keyword word) = measured_at (measure_of_word word) word
-measure_by sort = fail
+abbrev pub measure_by : TokenKind → Reading MeasureTree
+measure_by (S.Reserved word) = measured_at (measure_of_word word) word
+measure_by kind = fail
 
 unfoldable pub measure_at : Reading MeasureTree
 measure_at = by_next measure_by
@@ -248,10 +248,10 @@ time_at = do
   event ← between_at Open event_at Close
   give (Moment.Time place event)
 
-abbrev pub moment_by : Sort → Reading MomentTree
+abbrev pub moment_by : TokenKind → Reading MomentTree
 moment_by S.Date = token_at S.Date >>= λ x. give (Moment.Fixed x)
-moment_by (S.Keyword K.Time) = time_at
-moment_by sort = path_at >>= λ x. give (Moment.Path x)
+moment_by (S.Reserved K.Time) = time_at
+moment_by kind = path_at >>= λ x. give (Moment.Path x)
 
 unfoldable pub moment_at : Reading MomentTree
 moment_at = by_next moment_by

@@ -4,13 +4,13 @@ ghost use Rattle.sy_parse.specs.ReadingSpecifications as reading;
 ghost use Rattle.sy_parse.specs.ReadingSpecifications.{contract_at, decl_at, give_at, param_at, section_at, spec_at, surviving_at, unit_at};
 
 use crate::domain::with_listed;
-use crate::production::{Production, before, ended, maybe_listed};
+use crate::lines::ended;
+use crate::production::{Production, before, maybe_listed};
 use sy_base::{List, TimeUnit};
-use sy_lex::{Keyword, Sign};
+use sy_lex::{Keyword, Sign, TokenKind};
 use sy_reader::{Fault, Reader};
 use sy_tree::{
-    ContractTree, DeclTree, DomainTree, GiveTree, ObligTree, ParamTree, RhsTree, Sort, SpecTree,
-    UnitTree,
+    ContractTree, DeclTree, DomainTree, GiveTree, ObligTree, ParamTree, RhsTree, SpecTree, UnitTree,
 };
 
 /// The unit that a reserved word names.
@@ -29,8 +29,8 @@ impl Production for UnitTree {
     ghost reading = { unit_at };
 
     #[tactic(auto, unfolding(crate::specs::ReadingSpecifications::unit_at))]
-    fn read(reader: &mut Reader<'_, '_>) -> Result<UnitTree, Fault> {
-        let Some(Sort::Keyword(keyword)) = reader.next() else {
+    fn read(reader: &mut Reader<'_>) -> Result<UnitTree, Fault> {
+        let Some(TokenKind::Reserved(keyword)) = reader.next() else {
             return Err(reader.fault());
         };
         let Some(unit) = unit(keyword) else {
@@ -45,7 +45,7 @@ impl Production for ParamTree {
     ghost reading = { param_at };
 
     #[tactic(auto, unfolding(crate::specs::ReadingSpecifications::param_at))]
-    fn read(reader: &mut Reader<'_, '_>) -> Result<ParamTree, Fault> {
+    fn read(reader: &mut Reader<'_>) -> Result<ParamTree, Fault> {
         let name = before(reader, Sign::Colon)?;
         let type_name = reader.name()?;
         Ok(ParamTree { name, type_name })
@@ -56,7 +56,7 @@ impl Production for GiveTree {
     ghost reading = { give_at };
 
     #[tactic(auto, unfolding(crate::specs::ReadingSpecifications::give_at))]
-    fn read(reader: &mut Reader<'_, '_>) -> Result<GiveTree, Fault> {
+    fn read(reader: &mut Reader<'_>) -> Result<GiveTree, Fault> {
         let name = before(reader, Sign::Assign)?;
         let value = RhsTree::read(reader)?;
         Ok(GiveTree { name, value })
@@ -67,7 +67,7 @@ impl Production for DeclTree {
     ghost reading = { decl_at };
 
     #[tactic(auto, unfolding(crate::specs::ReadingSpecifications::decl_at))]
-    fn read(reader: &mut Reader<'_, '_>) -> Result<DeclTree, Fault> {
+    fn read(reader: &mut Reader<'_>) -> Result<DeclTree, Fault> {
         let name = before(reader, Sign::Colon)?;
         let type_name = reader.name()?;
         let gives = with_listed(reader)?;
@@ -81,11 +81,11 @@ impl Production for DeclTree {
 
 /// Reads the lines of a section, if its heading is there.
 #[tactic(auto, unfolding(crate::specs::ReadingSpecifications::section_at))]
-fn section<T: Production>(reader: &mut Reader<'_, '_>, heading: Keyword) -> Result<List<T>, Fault>
+fn section<T: Production>(reader: &mut Reader<'_>, heading: Keyword) -> Result<List<T>, Fault>
     ensures gives { Reads result reader.old reader.new (section_at heading T.reading) }
     ensures within { OnOk result (length reader.new ≤ length reader.old) }
 {
-    if !reader.begins(Sort::Keyword(heading)) {
+    if !reader.begins(TokenKind::Reserved(heading)) {
         return Ok(List::new(reader.alloc()));
     }
     reader.keyword(heading)?;
@@ -94,11 +94,11 @@ fn section<T: Production>(reader: &mut Reader<'_, '_>, heading: Keyword) -> Resu
 
 /// Reads the surviving obligations, if their heading is there.
 #[tactic(auto, unfolding(crate::specs::ReadingSpecifications::surviving_at))]
-fn surviving(reader: &mut Reader<'_, '_>) -> Result<List<ObligTree>, Fault>
+fn surviving(reader: &mut Reader<'_>) -> Result<List<ObligTree>, Fault>
     ensures gives { Reads result reader.old reader.new surviving_at }
     ensures within { OnOk result (length reader.new ≤ length reader.old) }
 {
-    if !reader.begins(Sort::Keyword(Keyword::Surviving)) {
+    if !reader.begins(TokenKind::Reserved(Keyword::Surviving)) {
         return Ok(List::new(reader.alloc()));
     }
     reader.keyword(Keyword::Surviving)?;
@@ -110,7 +110,7 @@ impl Production for ContractTree {
     ghost reading = { contract_at };
 
     #[tactic(auto, unfolding(crate::specs::ReadingSpecifications::contract_at))]
-    fn read(reader: &mut Reader<'_, '_>) -> Result<ContractTree, Fault> {
+    fn read(reader: &mut Reader<'_>) -> Result<ContractTree, Fault> {
         let place = reader.keyword(Keyword::Contract)?;
         let name = reader.name()?;
         reader.sign(Sign::Open)?;
@@ -146,7 +146,7 @@ impl Production for SpecTree {
     ghost reading = { spec_at };
 
     #[tactic(auto, unfolding(crate::specs::ReadingSpecifications::spec_at))]
-    fn read(reader: &mut Reader<'_, '_>) -> Result<SpecTree, Fault> {
+    fn read(reader: &mut Reader<'_>) -> Result<SpecTree, Fault> {
         let domain = DomainTree::read(reader)?;
         let contract = ContractTree::read(reader)?;
         Ok(SpecTree { domain, contract })

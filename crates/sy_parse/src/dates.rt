@@ -5,11 +5,9 @@ ghost use Rattle.sy_parse.specs.ReadingTerms.{date_at, duration_at, measure_at, 
 
 use crate::production::{Production, between, each_behind};
 use sy_base::Measure;
-use sy_lex::{Keyword, Sign};
+use sy_lex::{Keyword, Sign, TokenKind};
 use sy_reader::{Fault, Reader};
-use sy_tree::{
-    CountTree, DateTree, DurationTree, EventTree, MeasureTree, MomentTree, PathTree, Sort,
-};
+use sy_tree::{CountTree, DateTree, DurationTree, EventTree, MeasureTree, MomentTree, PathTree};
 
 /// How many durations a date term may have.
 const DURATION_LIMIT: usize = 8;
@@ -31,14 +29,14 @@ impl Production for MeasureTree {
     ghost reading = { measure_at };
 
     #[tactic(auto, unfolding(crate::specs::ReadingTerms::measure_at))]
-    fn read(reader: &mut Reader<'_, '_>) -> Result<MeasureTree, Fault> {
-        let Some(Sort::Keyword(keyword)) = reader.next() else {
+    fn read(reader: &mut Reader<'_>) -> Result<MeasureTree, Fault> {
+        let Some(TokenKind::Reserved(keyword)) = reader.next() else {
             return Err(reader.fault());
         };
         let Some(measure) = measure(keyword) else {
             return Err(reader.fault());
         };
-        let word = reader.token(Sort::Keyword(keyword))?;
+        let word = reader.token(TokenKind::Reserved(keyword))?;
         Ok(MeasureTree { measure, word })
     }
 }
@@ -47,9 +45,9 @@ impl Production for CountTree {
     ghost reading = { reading.count_at };
 
     #[tactic(auto, unfolding(crate::specs::ReadingTerms::count_at))]
-    fn read(reader: &mut Reader<'_, '_>) -> Result<CountTree, Fault> {
-        if reader.begins(Sort::Number) {
-            return Ok(CountTree::Number(reader.token(Sort::Number)?));
+    fn read(reader: &mut Reader<'_>) -> Result<CountTree, Fault> {
+        if reader.begins(TokenKind::Number) {
+            return Ok(CountTree::Number(reader.token(TokenKind::Number)?));
         }
         Ok(CountTree::Path(PathTree::read(reader)?))
     }
@@ -59,7 +57,7 @@ impl Production for DurationTree {
     ghost reading = { duration_at };
 
     #[tactic(auto, unfolding(crate::specs::ReadingTerms::duration_at))]
-    fn read(reader: &mut Reader<'_, '_>) -> Result<DurationTree, Fault> {
+    fn read(reader: &mut Reader<'_>) -> Result<DurationTree, Fault> {
         let count = CountTree::read(reader)?;
         let measure = MeasureTree::read(reader)?;
         Ok(DurationTree { count, measure })
@@ -67,7 +65,7 @@ impl Production for DurationTree {
 }
 
 /// Reads the first time of an event.
-fn time(reader: &mut Reader<'_, '_>) -> Result<MomentTree, Fault>
+fn time(reader: &mut Reader<'_>) -> Result<MomentTree, Fault>
     ensures gives { Reads result reader.old reader.new reading.time_at }
     ensures shorter { OnOk result (length reader.new < length reader.old) }
 {
@@ -80,10 +78,10 @@ impl Production for MomentTree {
     ghost reading = { moment_at };
 
     #[tactic(auto, unfolding(crate::specs::ReadingTerms::moment_at))]
-    fn read(reader: &mut Reader<'_, '_>) -> Result<MomentTree, Fault> {
+    fn read(reader: &mut Reader<'_>) -> Result<MomentTree, Fault> {
         match reader.next() {
-            Some(Sort::Date) => Ok(MomentTree::Fixed(reader.token(Sort::Date)?)),
-            Some(Sort::Keyword(Keyword::Time)) => time(reader),
+            Some(TokenKind::Date) => Ok(MomentTree::Fixed(reader.token(TokenKind::Date)?)),
+            Some(TokenKind::Reserved(Keyword::Time)) => time(reader),
             Some(_) => Ok(MomentTree::Path(PathTree::read(reader)?)),
             None => Err(reader.fault()),
         }
@@ -94,7 +92,7 @@ impl Production for DateTree {
     ghost reading = { date_at };
 
     #[tactic(auto, unfolding(crate::specs::ReadingTerms::date_at))]
-    fn read(reader: &mut Reader<'_, '_>) -> Result<DateTree, Fault> {
+    fn read(reader: &mut Reader<'_>) -> Result<DateTree, Fault> {
         let moment = MomentTree::read(reader)?;
         let plus = each_behind(reader, Sign::Plus, DURATION_LIMIT)?;
         Ok(DateTree { moment, plus })

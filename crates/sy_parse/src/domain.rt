@@ -3,17 +3,18 @@ ghost use Rattle.sy_reader.specs.Reader.{Reads};
 ghost use Rattle.sy_parse.specs.ReadingSpecifications as reading;
 ghost use Rattle.sy_parse.specs.ReadingSpecifications.{attr_at, base_at, domain_at, enumeration_at, env_at, type_at, with_listed_at};
 
-use crate::production::{Production, before, ended, listed};
+use crate::lines::ended;
+use crate::production::{Production, before, listed};
 use sy_base::{List, Place};
-use sy_lex::{Keyword, Sign};
+use sy_lex::{Keyword, Sign, TokenKind};
 use sy_reader::{Fault, Reader};
-use sy_tree::{AttrTree, BaseTree, DomainTree, EnumTree, Sort, TypeTree, Written};
+use sy_tree::{AttrTree, BaseTree, DomainTree, EnumTree, TypeTree, Written};
 
 impl Production for EnumTree {
     ghost reading = { enumeration_at };
 
     #[tactic(auto, unfolding(crate::specs::ReadingSpecifications::enumeration_at))]
-    fn read(reader: &mut Reader<'_, '_>) -> Result<EnumTree, Fault> {
+    fn read(reader: &mut Reader<'_>) -> Result<EnumTree, Fault> {
         reader.keyword(Keyword::Enumeration)?;
         reader.sign(Sign::Open)?;
         let constants = listed(reader)?;
@@ -26,15 +27,15 @@ impl Production for BaseTree {
     ghost reading = { base_at };
 
     #[tactic(auto, unfolding(crate::specs::ReadingSpecifications::base_at))]
-    fn read(reader: &mut Reader<'_, '_>) -> Result<BaseTree, Fault> {
+    fn read(reader: &mut Reader<'_>) -> Result<BaseTree, Fault> {
         match reader.next() {
-            Some(Sort::Keyword(Keyword::Role)) => {
+            Some(TokenKind::Reserved(Keyword::Role)) => {
                 Ok(BaseTree::Role(reader.keyword(Keyword::Role)?))
             }
-            Some(Sort::Keyword(Keyword::Asset)) => {
+            Some(TokenKind::Reserved(Keyword::Asset)) => {
                 Ok(BaseTree::Asset(reader.keyword(Keyword::Asset)?))
             }
-            Some(Sort::Keyword(Keyword::Event)) => {
+            Some(TokenKind::Reserved(Keyword::Event)) => {
                 Ok(BaseTree::Event(reader.keyword(Keyword::Event)?))
             }
             Some(_) => Ok(BaseTree::Named(reader.name()?)),
@@ -44,11 +45,11 @@ impl Production for BaseTree {
 }
 
 /// Reads `Env`, if it is there.
-fn env(reader: &mut Reader<'_, '_>) -> Result<Option<Place>, Fault>
+fn env(reader: &mut Reader<'_>) -> Result<Option<Place>, Fault>
     ensures gives { Reads result reader.old reader.new env_at }
     ensures within { OnOk result (length reader.new ≤ length reader.old) }
 {
-    if !reader.begins(Sort::Keyword(Keyword::Env)) {
+    if !reader.begins(TokenKind::Reserved(Keyword::Env)) {
         return Ok(None);
     }
     Ok(Some(reader.keyword(Keyword::Env)?))
@@ -58,7 +59,7 @@ impl Production for AttrTree {
     ghost reading = { attr_at };
 
     #[tactic(auto, unfolding(crate::specs::ReadingSpecifications::attr_at))]
-    fn read(reader: &mut Reader<'_, '_>) -> Result<AttrTree, Fault> {
+    fn read(reader: &mut Reader<'_>) -> Result<AttrTree, Fault> {
         let env = env(reader)?;
         let name = before(reader, Sign::Colon)?;
         let type_name = reader.name()?;
@@ -71,11 +72,11 @@ impl Production for AttrTree {
 }
 
 /// Reads what is listed behind `with`, if that is there.
-pub(crate) fn with_listed<T: Production>(reader: &mut Reader<'_, '_>) -> Result<List<T>, Fault>
+pub(crate) fn with_listed<T: Production>(reader: &mut Reader<'_>) -> Result<List<T>, Fault>
     ensures gives { Reads result reader.old reader.new (with_listed_at T.reading) }
     ensures within { OnOk result (length reader.new ≤ length reader.old) }
 {
-    if !reader.begins(Sort::Keyword(Keyword::With)) {
+    if !reader.begins(TokenKind::Reserved(Keyword::With)) {
         return Ok(List::new(reader.alloc()));
     }
     reader.keyword(Keyword::With)?;
@@ -83,22 +84,22 @@ pub(crate) fn with_listed<T: Production>(reader: &mut Reader<'_, '_>) -> Result<
 }
 
 /// Reads `isA` or `isAn`.
-fn is_a(reader: &mut Reader<'_, '_>) -> Result<Place, Fault>
+fn is_a(reader: &mut Reader<'_>) -> Result<Place, Fault>
     ensures gives { Reads result reader.old reader.new reading.is_a_at }
     ensures shorter { OnOk result (length reader.new < length reader.old) }
 {
-    if reader.begins(Sort::Keyword(Keyword::IsAn)) {
+    if reader.begins(TokenKind::Reserved(Keyword::IsAn)) {
         return reader.keyword(Keyword::IsAn);
     }
     reader.keyword(Keyword::IsA)
 }
 
 /// Reads what a type of this name is.
-fn body(reader: &mut Reader<'_, '_>, name: Written) -> Result<TypeTree, Fault>
+fn body(reader: &mut Reader<'_>, name: Written) -> Result<TypeTree, Fault>
     ensures gives { Reads result reader.old reader.new (reading.body_at name) }
     ensures shorter { OnOk result (length reader.new < length reader.old) }
 {
-    if reader.begins(Sort::Keyword(Keyword::Enumeration)) {
+    if reader.begins(TokenKind::Reserved(Keyword::Enumeration)) {
         return Ok(TypeTree::Enumeration(name, EnumTree::read(reader)?));
     }
     let base = BaseTree::read(reader)?;
@@ -110,7 +111,7 @@ impl Production for TypeTree {
     ghost reading = { type_at };
 
     #[tactic(auto, unfolding(crate::specs::ReadingSpecifications::type_at))]
-    fn read(reader: &mut Reader<'_, '_>) -> Result<TypeTree, Fault> {
+    fn read(reader: &mut Reader<'_>) -> Result<TypeTree, Fault> {
         let name = reader.name()?;
         is_a(reader)?;
         body(reader, name)
@@ -121,7 +122,7 @@ impl Production for DomainTree {
     ghost reading = { domain_at };
 
     #[tactic(auto, unfolding(crate::specs::ReadingSpecifications::domain_at))]
-    fn read(reader: &mut Reader<'_, '_>) -> Result<DomainTree, Fault> {
+    fn read(reader: &mut Reader<'_>) -> Result<DomainTree, Fault> {
         reader.keyword(Keyword::Domain)?;
         let name = reader.name()?;
         let types = ended(reader)?;

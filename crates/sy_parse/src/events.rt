@@ -6,15 +6,15 @@ ghost use Rattle.sy_parse.specs.ReadingTerms.{event_at, guard_at, guards_at, sit
 use crate::production::{Production, between, listed};
 use sy_base::List;
 use sy_core::Kind;
-use sy_lex::{Keyword, Sign};
+use sy_lex::{Keyword, Sign, TokenKind};
 use sy_reader::{Fault, Reader};
-use sy_tree::{CmpTree, EventTree, GuardTree, RhsTree, SituationTree, Sort, TargetTree};
+use sy_tree::{CmpTree, EventTree, GuardTree, RhsTree, SituationTree, TargetTree};
 
 impl Production for GuardTree {
     ghost reading = { guard_at };
 
     #[tactic(auto, unfolding(crate::specs::ReadingTerms::guard_at))]
-    fn read(reader: &mut Reader<'_, '_>) -> Result<GuardTree, Fault> {
+    fn read(reader: &mut Reader<'_>) -> Result<GuardTree, Fault> {
         let name = reader.name()?;
         let cmp = CmpTree::read(reader)?;
         let value = RhsTree::read(reader)?;
@@ -23,11 +23,11 @@ impl Production for GuardTree {
 }
 
 /// Reads the guards of an event, if brackets are there.
-fn guards(reader: &mut Reader<'_, '_>) -> Result<List<GuardTree>, Fault>
+fn guards(reader: &mut Reader<'_>) -> Result<List<GuardTree>, Fault>
     ensures gives { Reads result reader.old reader.new guards_at }
     ensures within { OnOk result (length reader.new ≤ length reader.old) }
 {
-    if !reader.begins(Sort::Sign(Sign::OpenBracket)) {
+    if !reader.begins(TokenKind::Sign(Sign::OpenBracket)) {
         return Ok(List::new(reader.alloc()));
     }
     reader.sign(Sign::OpenBracket)?;
@@ -37,7 +37,7 @@ fn guards(reader: &mut Reader<'_, '_>) -> Result<List<GuardTree>, Fault>
 }
 
 /// Reads a declared event.
-fn declared(reader: &mut Reader<'_, '_>) -> Result<EventTree, Fault>
+fn declared(reader: &mut Reader<'_>) -> Result<EventTree, Fault>
     ensures gives { Reads result reader.old reader.new reading.declared_at }
     ensures shorter { OnOk result (length reader.new < length reader.old) }
 {
@@ -67,10 +67,10 @@ fn kind_of(keyword: Keyword) -> Option<Kind>
 }
 
 /// The kind that the next lexeme names, with its word.
-fn next_kind(reader: &Reader<'_, '_>) -> Option<(Kind, Keyword)>
+fn next_kind(reader: &Reader<'_>) -> Option<(Kind, Keyword)>
     ensures { result ≡ reading.next_kind reader.now }
 {
-    let Some(Sort::Keyword(keyword)) = reader.next() else {
+    let Some(TokenKind::Reserved(keyword)) = reader.next() else {
         return None;
     };
     Some((kind_of(keyword)?, keyword))
@@ -80,7 +80,7 @@ impl Production for EventTree {
     ghost reading = { event_at };
 
     #[tactic(auto, unfolding(crate::specs::ReadingTerms::event_at))]
-    fn read(reader: &mut Reader<'_, '_>) -> Result<EventTree, Fault> {
+    fn read(reader: &mut Reader<'_>) -> Result<EventTree, Fault> {
         let Some((kind, keyword)) = next_kind(reader) else {
             return declared(reader);
         };
@@ -91,11 +91,11 @@ impl Production for EventTree {
 }
 
 /// Reads `=` or `!=`, and says whether it was the first.
-fn equality(reader: &mut Reader<'_, '_>) -> Result<bool, Fault>
+fn equality(reader: &mut Reader<'_>) -> Result<bool, Fault>
     ensures gives { Reads result reader.old reader.new reading.equality_at }
     ensures shorter { OnOk result (length reader.new < length reader.old) }
 {
-    if reader.begins(Sort::Sign(Sign::NotEqual)) {
+    if reader.begins(TokenKind::Sign(Sign::NotEqual)) {
         reader.sign(Sign::NotEqual)?;
         return Ok(false);
     }
@@ -107,7 +107,7 @@ impl Production for SituationTree {
     ghost reading = { situation_at };
 
     #[tactic(auto, unfolding(crate::specs::ReadingTerms::situation_at))]
-    fn read(reader: &mut Reader<'_, '_>) -> Result<SituationTree, Fault> {
+    fn read(reader: &mut Reader<'_>) -> Result<SituationTree, Fault> {
         let place = reader.keyword(Keyword::State)?;
         let target = between(reader, Sign::Open, Sign::Close)?;
         let equal = equality(reader)?;

@@ -6,6 +6,7 @@ mod contract;
 mod dates;
 mod domain;
 mod events;
+mod lines;
 mod parse;
 mod positions;
 mod production;

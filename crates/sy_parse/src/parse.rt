@@ -1,6 +1,7 @@
 ghost use Rattle.std.specs.Prelude.{◌≡◌, ◌<◌, ◌^◌, length, IfOk, IfErr};
 ghost use Rattle.sy_base.specs.declared.refusal.FileKind.TheVariants as files;
-ghost use Rattle.sy_tree.specs.Spelling.{SpellsBinding, SpellsSpec, lexemes_of};
+ghost use Rattle.sy_lex.specs.Lexemes.{lexemes_of};
+ghost use Rattle.sy_tree.specs.Spelling.{SpellsBinding, SpellsSpec};
 ghost use Rattle.sy_tree.specs.declared.binding.BindTree.{BindTree as ABinding};
 ghost use Rattle.sy_tree.specs.declared.contract.SpecTree.{SpecTree as ASpec};
 ghost use Rattle.sy_parse.specs.Faults as faults;
@@ -11,11 +12,11 @@ use crate::production::Production;
 use std::alloc::Global;
 use sy_base::{FaultName, FileKind, Memory, Refusal, Refused, Text};
 use sy_lex::{Token, end_place};
-use sy_reader::{Fault, Reader, lexemes, text};
+use sy_reader::{Fault, Reader};
 use sy_tree::{BindTree, SpecTree};
 
 /// Reads one, and that no lexeme is left behind it.
-fn all<T: Production>(reader: &mut Reader<'_, '_>) -> Result<T, Fault>
+fn all<T: Production>(reader: &mut Reader<'_>) -> Result<T, Fault>
     ensures { Gives result (whole_at T.reading reader.old) }
 {
     let tree = T::read(reader)?;
@@ -37,7 +38,7 @@ fn syntax_fault(
     ensures { IfOk result (λ refusal. refusal ≡ faults.syntax_fault_of file source.now tokens.now left) }
 {
     let (place, words) = match tokens.get(tokens.len().saturating_sub(left)) {
-        Some(token) => (token.place, text(source, token.from, token.to)),
+        Some(token) => (token.place, token.text(source)),
         None => (end_place(source), &[][..]),
     };
     Ok(Refusal {
@@ -58,8 +59,7 @@ fn parse<T: Production>(
     requires few { length source.now < 2 ^ 32 }
     ensures { Answers file source.now tokens.now result (whole_at T.reading (lexemes_of source.now tokens.now)) }
 {
-    let lexemes = lexemes(alloc, source, tokens)?;
-    let mut reader = Reader::new(alloc, lexemes.items());
+    let mut reader = Reader::new(alloc, source, tokens);
     match all(&mut reader) {
         Ok(tree) => Ok(tree),
         Err(Fault::Memory) => Err(Refused::Memory),

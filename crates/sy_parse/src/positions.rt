@@ -5,17 +5,17 @@ ghost use Rattle.sy_parse.specs.ReadingSpecifications.{act_at, oblig_at, power_a
 
 use crate::production::{Production, before, between};
 use sy_core::Verb;
-use sy_lex::{Keyword, Sign};
+use sy_lex::{Keyword, Sign, TokenKind};
 use sy_reader::{Fault, Reader};
-use sy_tree::{ActTree, ObligTree, PowerTree, PropTree, Sort, VerbTree};
+use sy_tree::{ActTree, ObligTree, PowerTree, PropTree, VerbTree};
 
 /// Reads a trigger, unless the word stands there that would follow it.
 #[tactic(auto, unfolding(crate::specs::ReadingSpecifications::trigger_at))]
-fn trigger(reader: &mut Reader<'_, '_>, keyword: Keyword) -> Result<Option<PropTree>, Fault>
+fn trigger(reader: &mut Reader<'_>, keyword: Keyword) -> Result<Option<PropTree>, Fault>
     ensures gives { Reads result reader.old reader.new (trigger_at keyword) }
     ensures within { OnOk result (length reader.new ≤ length reader.old) }
 {
-    if reader.begins(Sort::Keyword(keyword)) {
+    if reader.begins(TokenKind::Reserved(keyword)) {
         return Ok(None);
     }
     Ok(Some(before(reader, Sign::Arrow)?))
@@ -25,7 +25,7 @@ impl Production for ObligTree {
     ghost reading = { oblig_at };
 
     #[tactic(auto, unfolding(crate::specs::ReadingSpecifications::oblig_at))]
-    fn read(reader: &mut Reader<'_, '_>) -> Result<ObligTree, Fault> {
+    fn read(reader: &mut Reader<'_>) -> Result<ObligTree, Fault> {
         let name = before(reader, Sign::Colon)?;
         let trigger = trigger(reader, Keyword::O)?;
         reader.keyword(Keyword::O)?;
@@ -62,8 +62,8 @@ impl Production for VerbTree {
     ghost reading = { verb_at };
 
     #[tactic(auto, unfolding(crate::specs::ReadingSpecifications::verb_at))]
-    fn read(reader: &mut Reader<'_, '_>) -> Result<VerbTree, Fault> {
-        let Some(Sort::Keyword(keyword)) = reader.next() else {
+    fn read(reader: &mut Reader<'_>) -> Result<VerbTree, Fault> {
+        let Some(TokenKind::Reserved(keyword)) = reader.next() else {
             return Err(reader.fault());
         };
         let Some(verb) = verb(keyword) else {
@@ -78,7 +78,7 @@ impl Production for ActTree {
     ghost reading = { act_at };
 
     #[tactic(auto, unfolding(crate::specs::ReadingSpecifications::act_at))]
-    fn read(reader: &mut Reader<'_, '_>) -> Result<ActTree, Fault> {
+    fn read(reader: &mut Reader<'_>) -> Result<ActTree, Fault> {
         let verb = VerbTree::read(reader)?;
         let target = between(reader, Sign::Open, Sign::Close)?;
         Ok(ActTree { verb, target })
@@ -89,7 +89,7 @@ impl Production for PowerTree {
     ghost reading = { power_at };
 
     #[tactic(auto, unfolding(crate::specs::ReadingSpecifications::power_at))]
-    fn read(reader: &mut Reader<'_, '_>) -> Result<PowerTree, Fault> {
+    fn read(reader: &mut Reader<'_>) -> Result<PowerTree, Fault> {
         let name = before(reader, Sign::Colon)?;
         let trigger = trigger(reader, Keyword::P)?;
         reader.keyword(Keyword::P)?;

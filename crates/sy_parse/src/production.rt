@@ -1,12 +1,11 @@
 ghost use Rattle.std.specs.Prelude.{◌≡◌, ◌≤◌, ◌<◌, List, length, OnOk};
-ghost use Rattle.sy_tree.specs.Lexemes.{Lexeme as ALexeme};
+ghost use Rattle.sy_lex.specs.Lexemes.{Lexeme as ALexeme};
 ghost use Rattle.sy_reader.specs.Reader as spec;
-ghost use Rattle.sy_reader.specs.Reader.{Reads, all_behind, and_more, before_at, behind_at, between_at, each_behind, ended_at, listed_at, maybe_listed_at};
+ghost use Rattle.sy_reader.specs.Reader.{Reads, all_behind, and_more, before_at, behind_at, between_at, each_behind, listed_at, maybe_listed_at};
 
 use sy_base::List;
-use sy_lex::Sign;
-use sy_reader::{Fault, Reader, is_heading};
-use sy_tree::{Sort, Written};
+use sy_lex::{Sign, TokenKind, Written};
+use sy_reader::{Fault, Reader};
 
 /// What one rule of the grammar spells, as it is read.
 pub(crate) trait Production: Drop {
@@ -14,7 +13,7 @@ pub(crate) trait Production: Drop {
     ghost reading: { List ALexeme → spec.Read Self };
 
     /// Reads one from the front of what is left.
-    fn read(reader: &mut Reader<'_, '_>) -> Result<Self, Fault>
+    fn read(reader: &mut Reader<'_>) -> Result<Self, Fault>
         ensures gives { Reads result reader.old reader.new reading }
         ensures shorter { OnOk result (length reader.new < length reader.old) };
 }
@@ -22,13 +21,13 @@ pub(crate) trait Production: Drop {
 impl Production for Written {
     ghost reading = { spec.name_at };
 
-    fn read(reader: &mut Reader<'_, '_>) -> Result<Written, Fault> {
+    fn read(reader: &mut Reader<'_>) -> Result<Written, Fault> {
         reader.name()
     }
 }
 
 /// Reads a sign, and what stands behind it.
-pub(crate) fn behind<T: Production>(reader: &mut Reader<'_, '_>, sign: Sign) -> Result<T, Fault>
+pub(crate) fn behind<T: Production>(reader: &mut Reader<'_>, sign: Sign) -> Result<T, Fault>
     ensures gives { Reads result reader.old reader.new (behind_at sign T.reading) }
     ensures shorter { OnOk result (length reader.new < length reader.old) }
 {
@@ -38,7 +37,7 @@ pub(crate) fn behind<T: Production>(reader: &mut Reader<'_, '_>, sign: Sign) -> 
 
 /// Reads those behind a sign, at most so many, and puts them at the end of the list.
 fn more<T: Production>(
-    reader: &mut Reader<'_, '_>,
+    reader: &mut Reader<'_>,
     mut items: List<T>,
     sign: Sign,
     most: usize,
@@ -47,7 +46,7 @@ fn more<T: Production>(
     ensures within { OnOk result (length reader.new ≤ length reader.old) }
 {
     let mut left = most;
-    'item: while left > 0 && reader.begins(Sort::Sign(sign)) {
+    'item: while left > 0 && reader.begins(TokenKind::Sign(sign)) {
         items.push(behind(reader, sign)?)?;
         left -= 1;
     }
@@ -56,7 +55,7 @@ fn more<T: Production>(
 
 /// Reads those behind a sign, at most so many.
 pub(crate) fn each_behind<T: Production>(
-    reader: &mut Reader<'_, '_>,
+    reader: &mut Reader<'_>,
     sign: Sign,
     most: usize,
 ) -> Result<List<T>, Fault>
@@ -68,7 +67,7 @@ pub(crate) fn each_behind<T: Production>(
 
 /// Reads all those behind a sign.
 pub(crate) fn all_behind<T: Production>(
-    reader: &mut Reader<'_, '_>,
+    reader: &mut Reader<'_>,
     sign: Sign,
 ) -> Result<List<T>, Fault>
     ensures gives { Reads result reader.old reader.new (all_behind sign T.reading) }
@@ -79,7 +78,7 @@ pub(crate) fn all_behind<T: Production>(
 }
 
 /// Reads one, and those behind commas.
-pub(crate) fn listed<T: Production>(reader: &mut Reader<'_, '_>) -> Result<List<T>, Fault>
+pub(crate) fn listed<T: Production>(reader: &mut Reader<'_>) -> Result<List<T>, Fault>
     ensures gives { Reads result reader.old reader.new (listed_at T.reading) }
     ensures shorter { OnOk result (length reader.new < length reader.old) }
 {
@@ -91,20 +90,20 @@ pub(crate) fn listed<T: Production>(reader: &mut Reader<'_, '_>) -> Result<List<
 
 /// Reads a list with commas, or nothing where the sign stands that ends it.
 pub(crate) fn maybe_listed<T: Production>(
-    reader: &mut Reader<'_, '_>,
+    reader: &mut Reader<'_>,
     end: Sign,
 ) -> Result<List<T>, Fault>
     ensures gives { Reads result reader.old reader.new (maybe_listed_at end T.reading) }
     ensures within { OnOk result (length reader.new ≤ length reader.old) }
 {
-    if reader.begins(Sort::Sign(end)) {
+    if reader.begins(TokenKind::Sign(end)) {
         return Ok(List::new(reader.alloc()));
     }
     listed(reader)
 }
 
 /// Reads one, and the sign behind it.
-pub(crate) fn before<T: Production>(reader: &mut Reader<'_, '_>, sign: Sign) -> Result<T, Fault>
+pub(crate) fn before<T: Production>(reader: &mut Reader<'_>, sign: Sign) -> Result<T, Fault>
     ensures gives { Reads result reader.old reader.new (before_at T.reading sign) }
     ensures shorter { OnOk result (length reader.new < length reader.old) }
 {
@@ -115,7 +114,7 @@ pub(crate) fn before<T: Production>(reader: &mut Reader<'_, '_>, sign: Sign) -> 
 
 /// Reads one between two signs.
 pub(crate) fn between<T: Production>(
-    reader: &mut Reader<'_, '_>,
+    reader: &mut Reader<'_>,
     opening: Sign,
     closing: Sign,
 ) -> Result<T, Fault>
@@ -124,26 +123,4 @@ pub(crate) fn between<T: Production>(
 {
     reader.sign(opening)?;
     before(reader, closing)
-}
-
-/// Whether a line follows, and not the heading of a part, the end of one or the end of all.
-fn has_line(reader: &Reader<'_, '_>) -> bool
-    ensures { result ≡ spec.has_line reader.now }
-{
-    match reader.next() {
-        Some(sort) => !is_heading(sort),
-        None => false,
-    }
-}
-
-/// Reads lines up to the next heading, each with its semicolon.
-pub(crate) fn ended<T: Production>(reader: &mut Reader<'_, '_>) -> Result<List<T>, Fault>
-    ensures gives { Reads result reader.old reader.new (ended_at T.reading) }
-    ensures within { OnOk result (length reader.new ≤ length reader.old) }
-{
-    let mut items = List::new(reader.alloc());
-    'line: while has_line(reader) {
-        items.push(before(reader, Sign::Semicolon)?)?;
-    }
-    Ok(items)
 }

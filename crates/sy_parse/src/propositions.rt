@@ -1,4 +1,4 @@
-ghost use Rattle.std.specs.Prelude.{◌≡◌, ◌<◌, ◌≤◌, [], ◌∷◌, length, OnOk};
+ghost use Rattle.std.specs.Prelude.{◌≡◌, ◌<◌, ◌≤◌, [], ◌∷◌, length, IfOk, OnOk};
 ghost use Rattle.sy_lex.specs.declared.keyword.Keyword.TheVariants as words;
 ghost use Rattle.sy_tree.specs.declared.proposition.PropTree.TheVariants as props;
 ghost use Rattle.sy_reader.specs.Reader.{Reads, and_more};
@@ -6,29 +6,41 @@ ghost use Rattle.sy_parse.specs.ReadingPropositions as reading;
 ghost use Rattle.sy_parse.specs.ReadingPropositions.{atom_at, comparison_at, conj_of_at, constant_at, happens_at, happens_within_at, holds_at, links_at, neg_at, neg_of_at, occurs_at, prop_of_at};
 
 use crate::production::{Production, before, between};
-use sy_lex::{Keyword, Sign};
-use sy_reader::{Fault, Reader, first};
+use std::alloc::Global;
+use sy_base::Memory;
+use sy_lex::{Keyword, Sign, TokenKind};
+use sy_reader::{Fault, Lexeme, Reader};
 use sy_tree::{
-    Boxed, CmpTree, DateTree, EventTree, Items, PropTree, RhsTree, SituationTree, Sort, TermTree,
+    Boxed, CmpTree, DateTree, EventTree, First, Items, PropTree, RhsTree, SituationTree, TermTree,
 };
 
 /// How deep a proposition may be nested: each `not` and each bracket opens a level.
 const LEVEL_LIMIT: u32 = 32;
 
+/// The lexeme as the first token of a proposition without brackets round it.
+fn first(alloc: Global, lexeme: &Lexeme<'_>) -> Result<First, Memory>
+    ensures { IfOk result (λ first. first ≡ reading.first_of lexeme.now) }
+{
+    Ok(First {
+        token: lexeme.written(alloc)?,
+        bracket: None,
+    })
+}
+
 /// Reads `true` or `false`.
 #[tactic(auto, unfolding(crate::specs::ReadingPropositions::constant_at, crate::specs::ReadingPropositions::begins_at))]
-fn constant(reader: &mut Reader<'_, '_>, keyword: Keyword, value: bool) -> Result<PropTree, Fault>
+fn constant(reader: &mut Reader<'_>, keyword: Keyword, value: bool) -> Result<PropTree, Fault>
     ensures gives { Reads result reader.old reader.new (constant_at keyword value) }
     ensures shorter { OnOk result (length reader.new < length reader.old) }
 {
     let token = reader.ahead()?;
     reader.keyword(keyword)?;
-    Ok(PropTree::Const(value, first(reader.alloc(), token)?))
+    Ok(PropTree::Const(value, first(reader.alloc(), &token)?))
 }
 
 /// Reads a comparison.
 #[tactic(auto, unfolding(crate::specs::ReadingPropositions::comparison_at, crate::specs::ReadingPropositions::begins_at))]
-fn comparison(reader: &mut Reader<'_, '_>) -> Result<PropTree, Fault>
+fn comparison(reader: &mut Reader<'_>) -> Result<PropTree, Fault>
     ensures gives { Reads result reader.old reader.new comparison_at }
     ensures shorter { OnOk result (length reader.new < length reader.old) }
 {
@@ -36,24 +48,24 @@ fn comparison(reader: &mut Reader<'_, '_>) -> Result<PropTree, Fault>
     let left = TermTree::read(reader)?;
     let cmp = CmpTree::read(reader)?;
     let right = RhsTree::read(reader)?;
-    Ok(PropTree::Compare(left, cmp, right, first(reader.alloc(), token)?))
+    Ok(PropTree::Compare(left, cmp, right, first(reader.alloc(), &token)?))
 }
 
 /// Reads that an event happened.
 #[tactic(auto, unfolding(crate::specs::ReadingPropositions::happens_at, crate::specs::ReadingPropositions::begins_at))]
-fn happens(reader: &mut Reader<'_, '_>) -> Result<PropTree, Fault>
+fn happens(reader: &mut Reader<'_>) -> Result<PropTree, Fault>
     ensures gives { Reads result reader.old reader.new happens_at }
     ensures shorter { OnOk result (length reader.new < length reader.old) }
 {
     let token = reader.ahead()?;
     reader.keyword(Keyword::Happens)?;
     let event = between(reader, Sign::Open, Sign::Close)?;
-    Ok(PropTree::Happens(event, first(reader.alloc(), token)?))
+    Ok(PropTree::Happens(event, first(reader.alloc(), &token)?))
 }
 
 /// Reads an event and a date, with a comma between.
 #[tactic(auto, unfolding(crate::specs::ReadingPropositions::event_and_date_at))]
-fn event_and_date(reader: &mut Reader<'_, '_>) -> Result<(EventTree, DateTree), Fault>
+fn event_and_date(reader: &mut Reader<'_>) -> Result<(EventTree, DateTree), Fault>
     ensures gives { Reads result reader.old reader.new reading.event_and_date_at }
     ensures shorter { OnOk result (length reader.new < length reader.old) }
 {
@@ -64,7 +76,7 @@ fn event_and_date(reader: &mut Reader<'_, '_>) -> Result<(EventTree, DateTree), 
 
 /// Reads that an event happened before a date.
 #[tactic(auto, unfolding(crate::specs::ReadingPropositions::dated_at, crate::specs::ReadingPropositions::begins_at))]
-fn happens_before(reader: &mut Reader<'_, '_>) -> Result<PropTree, Fault>
+fn happens_before(reader: &mut Reader<'_>) -> Result<PropTree, Fault>
     ensures gives { Reads result reader.old reader.new (reading.dated_at words.HappensBefore props.Before) }
     ensures shorter { OnOk result (length reader.new < length reader.old) }
 {
@@ -73,12 +85,12 @@ fn happens_before(reader: &mut Reader<'_, '_>) -> Result<PropTree, Fault>
     reader.sign(Sign::Open)?;
     let (event, date) = event_and_date(reader)?;
     reader.sign(Sign::Close)?;
-    Ok(PropTree::Before(event, date, first(reader.alloc(), token)?))
+    Ok(PropTree::Before(event, date, first(reader.alloc(), &token)?))
 }
 
 /// Reads that an event happened after a date.
 #[tactic(auto, unfolding(crate::specs::ReadingPropositions::dated_at, crate::specs::ReadingPropositions::begins_at))]
-fn happens_after(reader: &mut Reader<'_, '_>) -> Result<PropTree, Fault>
+fn happens_after(reader: &mut Reader<'_>) -> Result<PropTree, Fault>
     ensures gives { Reads result reader.old reader.new (reading.dated_at words.HappensAfter props.After) }
     ensures shorter { OnOk result (length reader.new < length reader.old) }
 {
@@ -87,12 +99,12 @@ fn happens_after(reader: &mut Reader<'_, '_>) -> Result<PropTree, Fault>
     reader.sign(Sign::Open)?;
     let (event, date) = event_and_date(reader)?;
     reader.sign(Sign::Close)?;
-    Ok(PropTree::After(event, date, first(reader.alloc(), token)?))
+    Ok(PropTree::After(event, date, first(reader.alloc(), &token)?))
 }
 
 /// Reads two dates, with a comma between.
 #[tactic(auto, unfolding(crate::specs::ReadingPropositions::two_dates_at))]
-fn two_dates(reader: &mut Reader<'_, '_>) -> Result<(DateTree, DateTree), Fault>
+fn two_dates(reader: &mut Reader<'_>) -> Result<(DateTree, DateTree), Fault>
     ensures gives { Reads result reader.old reader.new reading.two_dates_at }
     ensures shorter { OnOk result (length reader.new < length reader.old) }
 {
@@ -103,7 +115,7 @@ fn two_dates(reader: &mut Reader<'_, '_>) -> Result<(DateTree, DateTree), Fault>
 
 /// Reads that an event happened from one date on and before another.
 #[tactic(auto, unfolding(crate::specs::ReadingPropositions::happens_within_at, crate::specs::ReadingPropositions::begins_at))]
-fn happens_within(reader: &mut Reader<'_, '_>) -> Result<PropTree, Fault>
+fn happens_within(reader: &mut Reader<'_>) -> Result<PropTree, Fault>
     ensures gives { Reads result reader.old reader.new happens_within_at }
     ensures shorter { OnOk result (length reader.new < length reader.old) }
 {
@@ -113,12 +125,12 @@ fn happens_within(reader: &mut Reader<'_, '_>) -> Result<PropTree, Fault>
     let event = before(reader, Sign::Comma)?;
     let (from, to) = two_dates(reader)?;
     reader.sign(Sign::Close)?;
-    Ok(PropTree::Within(event, from, to, first(reader.alloc(), token)?))
+    Ok(PropTree::Within(event, from, to, first(reader.alloc(), &token)?))
 }
 
 /// Reads that a situation occurs from one date on and before another.
 #[tactic(auto, unfolding(crate::specs::ReadingPropositions::occurs_at, crate::specs::ReadingPropositions::begins_at))]
-fn occurs(reader: &mut Reader<'_, '_>) -> Result<PropTree, Fault>
+fn occurs(reader: &mut Reader<'_>) -> Result<PropTree, Fault>
     ensures gives { Reads result reader.old reader.new occurs_at }
     ensures shorter { OnOk result (length reader.new < length reader.old) }
 {
@@ -128,36 +140,36 @@ fn occurs(reader: &mut Reader<'_, '_>) -> Result<PropTree, Fault>
     let situation = before(reader, Sign::Comma)?;
     let (from, to) = two_dates(reader)?;
     reader.sign(Sign::Close)?;
-    Ok(PropTree::Occurs(situation, from, to, first(reader.alloc(), token)?))
+    Ok(PropTree::Occurs(situation, from, to, first(reader.alloc(), &token)?))
 }
 
 /// Reads that a situation holds.
 #[tactic(auto, unfolding(crate::specs::ReadingPropositions::holds_at, crate::specs::ReadingPropositions::begins_at))]
-fn holds(reader: &mut Reader<'_, '_>) -> Result<PropTree, Fault>
+fn holds(reader: &mut Reader<'_>) -> Result<PropTree, Fault>
     ensures gives { Reads result reader.old reader.new holds_at }
     ensures shorter { OnOk result (length reader.new < length reader.old) }
 {
     let token = reader.ahead()?;
     reader.keyword(Keyword::Holds)?;
     let situation = between(reader, Sign::Open, Sign::Close)?;
-    Ok(PropTree::Holds(situation, first(reader.alloc(), token)?))
+    Ok(PropTree::Holds(situation, first(reader.alloc(), &token)?))
 }
 
 /// Reads an atom without brackets.
 #[tactic(auto, unfolding(crate::specs::ReadingPropositions::atom_at))]
-fn atom(reader: &mut Reader<'_, '_>) -> Result<PropTree, Fault>
+fn atom(reader: &mut Reader<'_>) -> Result<PropTree, Fault>
     ensures gives { Reads result reader.old reader.new atom_at }
     ensures shorter { OnOk result (length reader.new < length reader.old) }
 {
     match reader.next() {
-        Some(Sort::Keyword(Keyword::True)) => constant(reader, Keyword::True, true),
-        Some(Sort::Keyword(Keyword::False)) => constant(reader, Keyword::False, false),
-        Some(Sort::Keyword(Keyword::Happens)) => happens(reader),
-        Some(Sort::Keyword(Keyword::HappensBefore)) => happens_before(reader),
-        Some(Sort::Keyword(Keyword::HappensAfter)) => happens_after(reader),
-        Some(Sort::Keyword(Keyword::HappensWithin)) => happens_within(reader),
-        Some(Sort::Keyword(Keyword::Occurs)) => occurs(reader),
-        Some(Sort::Keyword(Keyword::Holds)) => holds(reader),
+        Some(TokenKind::Reserved(Keyword::True)) => constant(reader, Keyword::True, true),
+        Some(TokenKind::Reserved(Keyword::False)) => constant(reader, Keyword::False, false),
+        Some(TokenKind::Reserved(Keyword::Happens)) => happens(reader),
+        Some(TokenKind::Reserved(Keyword::HappensBefore)) => happens_before(reader),
+        Some(TokenKind::Reserved(Keyword::HappensAfter)) => happens_after(reader),
+        Some(TokenKind::Reserved(Keyword::HappensWithin)) => happens_within(reader),
+        Some(TokenKind::Reserved(Keyword::Occurs)) => occurs(reader),
+        Some(TokenKind::Reserved(Keyword::Holds)) => holds(reader),
         Some(_) => comparison(reader),
         None => Err(reader.fault()),
     }
@@ -165,7 +177,7 @@ fn atom(reader: &mut Reader<'_, '_>) -> Result<PropTree, Fault>
 
 /// Reads a negation, an atom, or a proposition in brackets, within so many levels.
 #[cycle(nesting)]
-fn neg(reader: &mut Reader<'_, '_>, levels: u32) -> Result<PropTree, Fault>
+fn neg(reader: &mut Reader<'_>, levels: u32) -> Result<PropTree, Fault>
     ensures gives { Reads result reader.old reader.new (neg_at levels) }
     ensures shorter { OnOk result (length reader.new < length reader.old) }
 {
@@ -178,13 +190,13 @@ fn neg(reader: &mut Reader<'_, '_>, levels: u32) -> Result<PropTree, Fault>
 
 /// The same, where what is inside has so many levels.
 #[cycle(nesting)]
-fn nested(reader: &mut Reader<'_, '_>, levels: u32) -> Result<PropTree, Fault>
+fn nested(reader: &mut Reader<'_>, levels: u32) -> Result<PropTree, Fault>
     ensures gives { Reads result reader.old reader.new (neg_of_at (neg_at levels)) }
     ensures shorter { OnOk result (length reader.new < length reader.old) }
 {
     match reader.next() {
-        Some(Sort::Keyword(Keyword::Not)) => negation(reader, levels),
-        Some(Sort::Sign(Sign::Open)) => brackets(reader, levels),
+        Some(TokenKind::Reserved(Keyword::Not)) => negation(reader, levels),
+        Some(TokenKind::Sign(Sign::Open)) => brackets(reader, levels),
         Some(_) => atom(reader),
         None => Err(reader.fault()),
     }
@@ -193,7 +205,7 @@ fn nested(reader: &mut Reader<'_, '_>, levels: u32) -> Result<PropTree, Fault>
 /// Reads a negation.
 #[cycle(nesting)]
 #[tactic(auto, unfolding(crate::specs::ReadingPropositions::begins_at))]
-fn negation(reader: &mut Reader<'_, '_>, levels: u32) -> Result<PropTree, Fault>
+fn negation(reader: &mut Reader<'_>, levels: u32) -> Result<PropTree, Fault>
     ensures gives { Reads result reader.old reader.new (reading.negation_at (neg_at levels)) }
     ensures shorter { OnOk result (length reader.new < length reader.old) }
 {
@@ -201,12 +213,12 @@ fn negation(reader: &mut Reader<'_, '_>, levels: u32) -> Result<PropTree, Fault>
     reader.keyword(Keyword::Not)?;
     let part = neg(reader, levels)?;
     let alloc = reader.alloc();
-    Ok(PropTree::Not(Boxed::new(alloc, part)?, first(alloc, token)?))
+    Ok(PropTree::Not(Boxed::new(alloc, part)?, first(alloc, &token)?))
 }
 
 /// Reads a proposition in brackets.
 #[cycle(nesting)]
-fn brackets(reader: &mut Reader<'_, '_>, levels: u32) -> Result<PropTree, Fault>
+fn brackets(reader: &mut Reader<'_>, levels: u32) -> Result<PropTree, Fault>
     ensures gives { Reads result reader.old reader.new (reading.brackets_at (neg_at levels)) }
     ensures shorter { OnOk result (length reader.new < length reader.old) }
 {
@@ -218,7 +230,7 @@ fn brackets(reader: &mut Reader<'_, '_>, levels: u32) -> Result<PropTree, Fault>
 
 /// Reads an `and`, and what stands behind it.
 #[cycle(nesting)]
-fn and_neg(reader: &mut Reader<'_, '_>, levels: u32) -> Result<PropTree, Fault>
+fn and_neg(reader: &mut Reader<'_>, levels: u32) -> Result<PropTree, Fault>
     ensures gives { Reads result reader.old reader.new (reading.link_at words.And (neg_at levels)) }
     ensures shorter { OnOk result (length reader.new < length reader.old) }
 {
@@ -228,17 +240,13 @@ fn and_neg(reader: &mut Reader<'_, '_>, levels: u32) -> Result<PropTree, Fault>
 
 /// Reads what stands behind each `and`, and puts it behind the first part.
 #[cycle(nesting)]
-fn more_negs(
-    reader: &mut Reader<'_, '_>,
-    part: PropTree,
-    levels: u32,
-) -> Result<Items<PropTree>, Fault>
+fn more_negs(reader: &mut Reader<'_>, part: PropTree, levels: u32) -> Result<Items<PropTree>, Fault>
     ensures gives { Reads result reader.old reader.new (and_more (part ∷ []) (links_at words.And (neg_at levels))) }
     ensures within { OnOk result (length reader.new ≤ length reader.old) }
 {
     let mut parts = Items::new(reader.alloc());
     parts.push(part)?;
-    'part: while reader.begins(Sort::Keyword(Keyword::And)) {
+    'part: while reader.begins(TokenKind::Reserved(Keyword::And)) {
         parts.push(and_neg(reader, levels)?)?;
     }
     Ok(parts)
@@ -246,22 +254,22 @@ fn more_negs(
 
 /// Reads what an `and` joins.
 #[cycle(nesting)]
-fn conj(reader: &mut Reader<'_, '_>, levels: u32) -> Result<PropTree, Fault>
+fn conj(reader: &mut Reader<'_>, levels: u32) -> Result<PropTree, Fault>
     ensures gives { Reads result reader.old reader.new (conj_of_at (neg_at levels)) }
     ensures shorter { OnOk result (length reader.new < length reader.old) }
 {
     let token = reader.ahead()?;
     let part = neg(reader, levels)?;
-    if !reader.begins(Sort::Keyword(Keyword::And)) {
+    if !reader.begins(TokenKind::Reserved(Keyword::And)) {
         return Ok(part);
     }
     let parts = more_negs(reader, part, levels)?;
-    Ok(PropTree::All(parts, first(reader.alloc(), token)?))
+    Ok(PropTree::All(parts, first(reader.alloc(), &token)?))
 }
 
 /// Reads an `or`, and what stands behind it.
 #[cycle(nesting)]
-fn or_conj(reader: &mut Reader<'_, '_>, levels: u32) -> Result<PropTree, Fault>
+fn or_conj(reader: &mut Reader<'_>, levels: u32) -> Result<PropTree, Fault>
     ensures gives { Reads result reader.old reader.new (reading.link_at words.Or (conj_of_at (neg_at levels))) }
     ensures shorter { OnOk result (length reader.new < length reader.old) }
 {
@@ -272,7 +280,7 @@ fn or_conj(reader: &mut Reader<'_, '_>, levels: u32) -> Result<PropTree, Fault>
 /// Reads what stands behind each `or`, and puts it behind the first part.
 #[cycle(nesting)]
 fn more_conjs(
-    reader: &mut Reader<'_, '_>,
+    reader: &mut Reader<'_>,
     part: PropTree,
     levels: u32,
 ) -> Result<Items<PropTree>, Fault>
@@ -281,7 +289,7 @@ fn more_conjs(
 {
     let mut parts = Items::new(reader.alloc());
     parts.push(part)?;
-    'part: while reader.begins(Sort::Keyword(Keyword::Or)) {
+    'part: while reader.begins(TokenKind::Reserved(Keyword::Or)) {
         parts.push(or_conj(reader, levels)?)?;
     }
     Ok(parts)
@@ -289,24 +297,24 @@ fn more_conjs(
 
 /// Reads what an `or` joins.
 #[cycle(nesting)]
-fn prop(reader: &mut Reader<'_, '_>, levels: u32) -> Result<PropTree, Fault>
+fn prop(reader: &mut Reader<'_>, levels: u32) -> Result<PropTree, Fault>
     ensures gives { Reads result reader.old reader.new (prop_of_at (neg_at levels)) }
     ensures shorter { OnOk result (length reader.new < length reader.old) }
 {
     let token = reader.ahead()?;
     let part = conj(reader, levels)?;
-    if !reader.begins(Sort::Keyword(Keyword::Or)) {
+    if !reader.begins(TokenKind::Reserved(Keyword::Or)) {
         return Ok(part);
     }
     let parts = more_conjs(reader, part, levels)?;
-    Ok(PropTree::Any(parts, first(reader.alloc(), token)?))
+    Ok(PropTree::Any(parts, first(reader.alloc(), &token)?))
 }
 
 impl Production for PropTree {
     ghost reading = { reading.prop_at };
 
     #[tactic(auto, unfolding(crate::specs::ReadingPropositions::prop_at))]
-    fn read(reader: &mut Reader<'_, '_>) -> Result<PropTree, Fault> {
+    fn read(reader: &mut Reader<'_>) -> Result<PropTree, Fault> {
         prop(reader, LEVEL_LIMIT)
     }
 }

@@ -7,19 +7,18 @@ ghost use Rattle.sy_parse.specs.ReadingTerms.{cmp_at, factor_at, inner_path, is_
 use crate::production::{Production, all_behind, behind};
 use sy_base::List;
 use sy_core::Cmp;
-use sy_lex::{Keyword, Sign};
+use sy_lex::{Keyword, Sign, TokenKind};
 use sy_reader::{Fault, Reader};
 use sy_tree::{
-    CmpTree, FactorTree, PathTree, RhsTree, SingleTree, Sort, SumTree, TargetTree, TermTree,
-    Written,
+    CmpTree, FactorTree, PathTree, RhsTree, SingleTree, SumTree, TargetTree, TermTree, Written,
 };
 
 /// Reads what stands behind a dot, if one is there.
-fn attribute(reader: &mut Reader<'_, '_>) -> Result<Option<Written>, Fault>
+fn attribute(reader: &mut Reader<'_>) -> Result<Option<Written>, Fault>
     ensures gives { Reads result reader.old reader.new maybe_attribute }
     ensures within { OnOk result (length reader.new ≤ length reader.old) }
 {
-    if !reader.begins(Sort::Sign(Sign::Dot)) {
+    if !reader.begins(TokenKind::Sign(Sign::Dot)) {
         return Ok(None);
     }
     reader.sign(Sign::Dot)?;
@@ -30,7 +29,7 @@ impl Production for PathTree {
     ghost reading = { path_at };
 
     #[tactic(auto, unfolding(crate::specs::ReadingTerms::path_at))]
-    fn read(reader: &mut Reader<'_, '_>) -> Result<PathTree, Fault> {
+    fn read(reader: &mut Reader<'_>) -> Result<PathTree, Fault> {
         let name = reader.name()?;
         let Some(attribute_name) = attribute(reader)? else {
             return Ok(PathTree::Name(name));
@@ -43,24 +42,24 @@ impl Production for PathTree {
 }
 
 /// Reads a number behind its `-`.
-fn negative(reader: &mut Reader<'_, '_>) -> Result<SingleTree, Fault>
+fn negative(reader: &mut Reader<'_>) -> Result<SingleTree, Fault>
     ensures gives { Reads result reader.old reader.new reading.negative_at }
     ensures shorter { OnOk result (length reader.new < length reader.old) }
 {
     let place = reader.sign(Sign::Minus)?;
-    Ok(SingleTree::Negative(place, reader.token(Sort::Number)?))
+    Ok(SingleTree::Negative(place, reader.token(TokenKind::Number)?))
 }
 
 impl Production for SingleTree {
     ghost reading = { single_at };
 
     #[tactic(auto, unfolding(crate::specs::ReadingTerms::single_at))]
-    fn read(reader: &mut Reader<'_, '_>) -> Result<SingleTree, Fault> {
+    fn read(reader: &mut Reader<'_>) -> Result<SingleTree, Fault> {
         match reader.next() {
-            Some(Sort::Number) => Ok(SingleTree::Number(reader.token(Sort::Number)?)),
-            Some(Sort::Sign(Sign::Minus)) => negative(reader),
-            Some(Sort::Str) => Ok(SingleTree::Str(reader.token(Sort::Str)?)),
-            Some(Sort::Date) => Ok(SingleTree::Date(reader.token(Sort::Date)?)),
+            Some(TokenKind::Number) => Ok(SingleTree::Number(reader.token(TokenKind::Number)?)),
+            Some(TokenKind::Sign(Sign::Minus)) => negative(reader),
+            Some(TokenKind::Str) => Ok(SingleTree::Str(reader.token(TokenKind::Str)?)),
+            Some(TokenKind::Date) => Ok(SingleTree::Date(reader.token(TokenKind::Date)?)),
             Some(_) => Ok(SingleTree::Path(PathTree::read(reader)?)),
             None => Err(reader.fault()),
         }
@@ -71,7 +70,7 @@ impl Production for FactorTree {
     ghost reading = { factor_at };
 
     #[tactic(auto, unfolding(crate::specs::ReadingTerms::factor_at))]
-    fn read(reader: &mut Reader<'_, '_>) -> Result<FactorTree, Fault> {
+    fn read(reader: &mut Reader<'_>) -> Result<FactorTree, Fault> {
         let first = SingleTree::read(reader)?;
         let others = all_behind(reader, Sign::Times)?;
         Ok(FactorTree { first, others })
@@ -82,9 +81,9 @@ impl Production for SumTree {
     ghost reading = { sum_at };
 
     #[tactic(auto, unfolding(crate::specs::ReadingTerms::sum_at))]
-    fn read(reader: &mut Reader<'_, '_>) -> Result<SumTree, Fault> {
+    fn read(reader: &mut Reader<'_>) -> Result<SumTree, Fault> {
         match reader.next() {
-            Some(Sort::Sign(Sign::Plus)) => { Ok(SumTree::Plus(behind(reader, Sign::Plus)?)) }
+            Some(TokenKind::Sign(Sign::Plus)) => { Ok(SumTree::Plus(behind(reader, Sign::Plus)?)) }
             Some(_) => { Ok(SumTree::Minus(behind(reader, Sign::Minus)?)) }
             None => Err(reader.fault()),
         }
@@ -92,14 +91,17 @@ impl Production for SumTree {
 }
 
 /// Whether a `+` or a `-` follows.
-fn has_sum(reader: &Reader<'_, '_>) -> bool
+fn has_sum(reader: &Reader<'_>) -> bool
     ensures { result ≡ spec.next_passes is_sum_sign reader.now }
 {
-    matches!(reader.next(), Some(Sort::Sign(Sign::Plus | Sign::Minus)))
+    matches!(
+        reader.next(),
+        Some(TokenKind::Sign(Sign::Plus | Sign::Minus))
+    )
 }
 
 /// Reads what is added to a factor or taken from it.
-fn sums(reader: &mut Reader<'_, '_>) -> Result<List<SumTree>, Fault>
+fn sums(reader: &mut Reader<'_>) -> Result<List<SumTree>, Fault>
     ensures gives { Reads result reader.old reader.new (many_at is_sum_sign sum_at) }
     ensures within { OnOk result (length reader.new ≤ length reader.old) }
 {
@@ -114,7 +116,7 @@ impl Production for TermTree {
     ghost reading = { term_at };
 
     #[tactic(auto, unfolding(crate::specs::ReadingTerms::term_at))]
-    fn read(reader: &mut Reader<'_, '_>) -> Result<TermTree, Fault> {
+    fn read(reader: &mut Reader<'_>) -> Result<TermTree, Fault> {
         let first = FactorTree::read(reader)?;
         let others = sums(reader)?;
         Ok(TermTree { first, others })
@@ -125,12 +127,12 @@ impl Production for RhsTree {
     ghost reading = { rhs_at };
 
     #[tactic(auto, unfolding(crate::specs::ReadingTerms::rhs_at))]
-    fn read(reader: &mut Reader<'_, '_>) -> Result<RhsTree, Fault> {
+    fn read(reader: &mut Reader<'_>) -> Result<RhsTree, Fault> {
         match reader.next() {
-            Some(Sort::Keyword(Keyword::True)) => {
+            Some(TokenKind::Reserved(Keyword::True)) => {
                 Ok(RhsTree::Const(true, reader.keyword(Keyword::True)?))
             }
-            Some(Sort::Keyword(Keyword::False)) => {
+            Some(TokenKind::Reserved(Keyword::False)) => {
                 Ok(RhsTree::Const(false, reader.keyword(Keyword::False)?))
             }
             Some(_) => Ok(RhsTree::Term(TermTree::read(reader)?)),
@@ -158,8 +160,8 @@ impl Production for CmpTree {
     ghost reading = { cmp_at };
 
     #[tactic(auto, unfolding(crate::specs::ReadingTerms::cmp_at))]
-    fn read(reader: &mut Reader<'_, '_>) -> Result<CmpTree, Fault> {
-        let Some(Sort::Sign(sign)) = reader.next() else {
+    fn read(reader: &mut Reader<'_>) -> Result<CmpTree, Fault> {
+        let Some(TokenKind::Sign(sign)) = reader.next() else {
             return Err(reader.fault());
         };
         let Some(cmp) = compared(sign) else {
@@ -174,8 +176,8 @@ impl Production for TargetTree {
     ghost reading = { target_at };
 
     #[tactic(auto, unfolding(crate::specs::ReadingTerms::target_at))]
-    fn read(reader: &mut Reader<'_, '_>) -> Result<TargetTree, Fault> {
-        if reader.begins(Sort::Keyword(Keyword::ThisContract)) {
+    fn read(reader: &mut Reader<'_>) -> Result<TargetTree, Fault> {
+        if reader.begins(TokenKind::Reserved(Keyword::ThisContract)) {
             return Ok(TargetTree::Contract(reader.keyword(Keyword::ThisContract)?));
         }
         Ok(TargetTree::Named(reader.name()?))

@@ -5,13 +5,13 @@ use Rattle.sy_lex.specs.contracts.keyword.Keyword.{the_type as the_keywords}
 use Rattle.sy_lex.specs.contracts.sign.Sign.{the_type as the_signs}
 use Rattle.sy_lex.specs.declared.keyword.Keyword.{Keyword}
 use Rattle.sy_lex.specs.declared.sign.Sign.{Sign}
-use Rattle.sy_tree.specs.declared.sort.Sort.{Sort}
-use Rattle.sy_tree.specs.declared.sort.Sort.TheVariants as S
-use Rattle.sy_tree.specs.Lexemes.{Lexeme, written}
+use Rattle.sy_lex.specs.declared.token.TokenKind.{TokenKind}
+use Rattle.sy_lex.specs.declared.token.TokenKind.TheVariants as S
+use Rattle.sy_lex.specs.Lexemes.{Lexeme, written}
 use Rattle.sy_tree.specs.Grammar as grammar
 use Rattle.sy_tree.specs.Grammar.{Rule, spelled, lexeme, token, keyword, sign, before, behind, ahead}
 use Rattle.sy_reader.specs.Reader as reader
-use Rattle.sy_reader.specs.Reader.{Read, Reading, and_then, give, is_sort, lexeme_at, token_at, place_at, keyword_at, sign_at, before_at, behind_at, ahead_at}
+use Rattle.sy_reader.specs.Reader.{Read, Reading, and_then, give, is_kind, lexeme_at, token_at, place_at, keyword_at, sign_at, before_at, behind_at, ahead_at}
 
 -- what is asked of the lexemes behind those that a rule spells
 abbrev pub Behind : Type 1
@@ -41,45 +41,45 @@ pub record Agrees {A : Type 0} (R : List Lexeme → A → List Lexeme → Type 0
 pub record Takes {A : Type 0} (R : List Lexeme → A → List Lexeme → Type 0) : Type 0 where
   pub less : (from : List Lexeme) (x : A) (rest : List Lexeme) → R from x rest → length rest < length from
 
--- there is a next lexeme, whose sort passes T
-pub record Next (T : Sort → Type 0) (from : List Lexeme) : Type 0 where
+-- there is a next lexeme, whose kind passes T
+pub record Next (T : TokenKind → Type 0) (from : List Lexeme) : Type 0 where
   pub first : Lexeme
   pub others : List Lexeme
   pub front : from ≡ first ∷ others
-  pub passes : T first.sort
+  pub passes : T first.kind
 
--- what R spells begins with a lexeme whose sort passes T
-pub record Begins {A : Type 0} (R : List Lexeme → A → List Lexeme → Type 0) (T : Sort → Type 0) : Type 0 where
+-- what R spells begins with a lexeme whose kind passes T
+pub record Begins {A : Type 0} (R : List Lexeme → A → List Lexeme → Type 0) (T : TokenKind → Type 0) : Type 0 where
   pub next : (from : List Lexeme) (x : A) (rest : List Lexeme) → R from x rest → Next T from
 
-abbrev pub Is : Sort → Sort → Type 0
-Is sort s = s ≡ sort
+abbrev pub Is : TokenKind → TokenKind → Type 0
+Is kind s = s ≡ kind
 
--- it isn't of this sort
-abbrev pub Differs : Sort → Sort → Type 0
-Differs sort s = is_sort s sort ≡ false
+-- it isn't of this kind
+abbrev pub Differs : TokenKind → TokenKind → Type 0
+Differs kind s = is_kind s kind ≡ false
 
-pub is_it : (a b : Sort) → is_sort a b ≡ true → a ≡ b
-is_it (S.Keyword a) (S.Keyword b) h = ap S.Keyword (same_true the_keywords (search rules) a b h)
+pub is_it : (a b : TokenKind) → is_kind a b ≡ true → a ≡ b
+is_it (S.Reserved a) (S.Reserved b) h = ap S.Reserved (same_true the_keywords (search rules) a b h)
 is_it (S.Sign a) (S.Sign b) h = ap S.Sign (same_true the_signs (search rules) a b h)
-is_it S.Name S.Name h = refl
+is_it S.Word S.Word h = refl
 is_it S.Number S.Number h = refl
 is_it S.Date S.Date h = refl
 is_it S.Str S.Str h = refl
 is_it a b h = absurd cc
 
-pub it_is : (a : Sort) → is_sort a a ≡ true
-it_is (S.Keyword a) = true_same the_keywords a a refl
+pub it_is : (a : TokenKind) → is_kind a a ≡ true
+it_is (S.Reserved a) = true_same the_keywords a a refl
 it_is (S.Sign a) = true_same the_signs a a refl
-it_is S.Name = refl
+it_is S.Word = refl
 it_is S.Number = refl
 it_is S.Date = refl
 it_is S.Str = refl
 
-pub not_it : (a b : Sort) → (a ≡ b → ⊥) → is_sort a b ≡ false
-not_it a b differ = of (is_sort a b) refl
+pub not_it : (a b : TokenKind) → (a ≡ b → ⊥) → is_kind a b ≡ false
+not_it a b differ = of (is_kind a b) refl
   where
-    of : (same : Bool) → is_sort a b ≡ same → same ≡ false
+    of : (same : Bool) → is_kind a b ≡ same → same ≡ false
     of true is = absurd (differ (is_it a b is))
     of false is = refl
 
@@ -175,28 +175,28 @@ pub node_agrees : {A B : Type 0} {R : Rule A} {r : Reading A} {F : Behind} (node
     → Agrees (grammar.◌>>=◌ R (λ x. spelled (node x))) (reader.◌>>=◌ r (λ x. give (node x))) F
 node_agrees {r = r} {F = F} node one = then_agrees one (λ x. anywhere (spelled_agrees (node x))) (λ x mid y rest d f. subst F (sym d.1) f)
 
-pub lexeme_agrees : (sort : Sort) → Agrees (lexeme sort) (lexeme_at sort) Any
-lexeme_agrees sort = record { sound = sounds; complete = completes; within = λ from x rest d. omega (arith, ap length d.0) }
+pub lexeme_agrees : (kind : TokenKind) → Agrees (lexeme kind) (lexeme_at kind) Any
+lexeme_agrees kind = record { sound = sounds; complete = completes; within = λ from x rest d. omega (arith, ap length d.0) }
   where
-    taken : (l : Lexeme) (ls : List Lexeme) (x : Lexeme) (rest : List Lexeme) (same : Bool) → is_sort l.sort sort ≡ same → if same then found l ls else Err (suc (length ls)) ≡ found x rest → lexeme sort (l ∷ ls) x rest
-    taken l ls x rest true is e = same_read (λ y a. lexeme sort (l ∷ ls) y a) e (refl, is_it l.sort sort is)
+    taken : (l : Lexeme) (ls : List Lexeme) (x : Lexeme) (rest : List Lexeme) (same : Bool) → is_kind l.kind kind ≡ same → if same then found l ls else Err (suc (length ls)) ≡ found x rest → lexeme kind (l ∷ ls) x rest
+    taken l ls x rest true is e = same_read (λ y a. lexeme kind (l ∷ ls) y a) e (refl, is_it l.kind kind is)
     taken l ls x rest false is e = absurd cc
 
-    sounds : Sound (lexeme sort) (lexeme_at sort)
+    sounds : Sound (lexeme kind) (lexeme_at kind)
     sounds [] x rest e = absurd cc
-    sounds (l ∷ ls) x rest e = taken l ls x rest (is_sort l.sort sort) refl e
+    sounds (l ∷ ls) x rest e = taken l ls x rest (is_kind l.kind kind) refl e
 
-    completes : Complete (lexeme sort) (lexeme_at sort) Any
-    completes from x rest d f = rw (d.0, d.1, it_is sort) refl
+    completes : Complete (lexeme kind) (lexeme_at kind) Any
+    completes from x rest d f = rw (d.0, d.1, it_is kind) refl
 
-pub token_agrees : (sort : Sort) → Agrees (token sort) (token_at sort) Any
-token_agrees sort = then_any (lexeme_agrees sort) (λ l. spelled_agrees (written l))
+pub token_agrees : (kind : TokenKind) → Agrees (token kind) (token_at kind) Any
+token_agrees kind = then_any (lexeme_agrees kind) (λ l. spelled_agrees (written l))
 
-pub place_agrees : (sort : Sort) → Agrees (grammar.◌>>=◌ (lexeme sort) (λ l. spelled l.place)) (place_at sort) Any
-place_agrees sort = then_any (lexeme_agrees sort) (λ l. spelled_agrees l.place)
+pub place_agrees : (kind : TokenKind) → Agrees (grammar.◌>>=◌ (lexeme kind) (λ l. spelled l.place)) (place_at kind) Any
+place_agrees kind = then_any (lexeme_agrees kind) (λ l. spelled_agrees l.place)
 
 pub keyword_agrees : (word : Keyword) → Agrees (keyword word) (keyword_at word) Any
-keyword_agrees word = place_agrees (S.Keyword word)
+keyword_agrees word = place_agrees (S.Reserved word)
 
 pub sign_agrees : (s : Sign) → Agrees (sign s) (sign_at s) Any
 sign_agrees s = place_agrees (S.Sign s)
@@ -213,30 +213,30 @@ ahead_agrees = record {
     sounds (l ∷ ls) x rest e = same_read (λ y a. ahead (l ∷ ls) y a) e (l, ls, refl, refl, refl)
 
 -- what a rule begins with
-pub begins_then : {A B : Type 0} {R : Rule A} {T : Sort → Type 0} {next : A → Rule B} → Begins R T → Begins (grammar.◌>>=◌ R next) T
+pub begins_then : {A B : Type 0} {R : Rule A} {T : TokenKind → Type 0} {next : A → Rule B} → Begins R T → Begins (grammar.◌>>=◌ R next) T
 begins_then begins = record { next = λ from y rest d. begins.next from d.0 d.1 d.2 }
 
-pub begins_or : {A : Type 0} {R : Rule A} {Q : Rule A} {T : Sort → Type 0} → Begins R T → Begins Q T → Begins (grammar.◌or◌ R Q) T
+pub begins_or : {A : Type 0} {R : Rule A} {Q : Rule A} {T : TokenKind → Type 0} → Begins R T → Begins Q T → Begins (grammar.◌or◌ R Q) T
 begins_or {R = R} {Q = Q} {T = T} one other = record { next = nexts }
   where
     nexts : (from : List Lexeme) (x : _) (rest : List Lexeme) → grammar.◌or◌ R Q from x rest → Next T from
     nexts from x rest (inl d) = one.next from x rest d
     nexts from x rest (inr d) = other.next from x rest d
 
-pub begins_so : {A : Type 0} {R : Rule A} {T U : Sort → Type 0} → Begins R T → ((s : Sort) → T s → U s) → Begins R U
-begins_so begins so = record { next = λ from x rest d. let n = begins.next from x rest d in record { first = n.first; others = n.others; front = n.front; passes = so n.first.sort n.passes } }
+pub begins_so : {A : Type 0} {R : Rule A} {T U : TokenKind → Type 0} → Begins R T → ((s : TokenKind) → T s → U s) → Begins R U
+begins_so begins so = record { next = λ from x rest d. let n = begins.next from x rest d in record { first = n.first; others = n.others; front = n.front; passes = so n.first.kind n.passes } }
 
-pub begins_as : {A : Type 0} {R : Rule A} {sort : Sort} {T : Sort → Type 0} → Begins R (Is sort) → T sort → Begins R T
+pub begins_as : {A : Type 0} {R : Rule A} {kind : TokenKind} {T : TokenKind → Type 0} → Begins R (Is kind) → T kind → Begins R T
 begins_as {T = T} begins t = begins_so begins (λ s e. subst T (sym e) t)
 
-pub lexeme_begins : (sort : Sort) → Begins (lexeme sort) (Is sort)
-lexeme_begins sort = record { next = λ from x rest d. record { first = x; others = rest; front = d.0; passes = d.1 } }
+pub lexeme_begins : (kind : TokenKind) → Begins (lexeme kind) (Is kind)
+lexeme_begins kind = record { next = λ from x rest d. record { first = x; others = rest; front = d.0; passes = d.1 } }
 
-pub token_begins : (sort : Sort) → Begins (token sort) (Is sort)
-token_begins sort = begins_then (lexeme_begins sort)
+pub token_begins : (kind : TokenKind) → Begins (token kind) (Is kind)
+token_begins kind = begins_then (lexeme_begins kind)
 
-pub keyword_begins : (word : Keyword) → Begins (keyword word) (Is (S.Keyword word))
-keyword_begins word = begins_then (lexeme_begins (S.Keyword word))
+pub keyword_begins : (word : Keyword) → Begins (keyword word) (Is (S.Reserved word))
+keyword_begins word = begins_then (lexeme_begins (S.Reserved word))
 
 pub sign_begins : (s : Sign) → Begins (sign s) (Is (S.Sign s))
 sign_begins s = begins_then (lexeme_begins (S.Sign s))
@@ -250,8 +250,8 @@ before_agrees s one follows = then_agrees one (λ x. then_any (sign_agrees s) λ
 pub before_any : {A : Type 0} {R : Rule A} {r : Reading A} (s : Sign) → Agrees R r Any → Agrees (before R s) (before_at r s) Any
 before_any s one = before_agrees s one (λ rest n. tt)
 
-pub lexeme_takes : (sort : Sort) → Takes (lexeme sort)
-lexeme_takes sort = record { less = λ from x rest d. omega (arith, ap length d.0) }
+pub lexeme_takes : (kind : TokenKind) → Takes (lexeme kind)
+lexeme_takes kind = record { less = λ from x rest d. omega (arith, ap length d.0) }
 
 pub takes_then : {A B : Type 0} {R : Rule A} {F : Behind} {next : A → Rule B} {reading : A → Reading B} → Takes R → ((x : A) → Agrees (next x) (reading x) F) → Takes (grammar.◌>>=◌ R next)
 takes_then takes other = record { less = λ from y rest d. omega (arith, takes.less from d.0 d.1 d.2, (other d.0).within d.1 y rest d.3) }
@@ -264,7 +264,7 @@ takes_or {R = R} {Q = Q} one other = record { less = lesses }
     lesses from x rest (inr d) = other.less from x rest d
 
 pub keyword_takes : (word : Keyword) → Takes (keyword word)
-keyword_takes word = takes_then (lexeme_takes (S.Keyword word)) (λ l. spelled_agrees l.place)
+keyword_takes word = takes_then (lexeme_takes (S.Reserved word)) (λ l. spelled_agrees l.place)
 
 pub sign_takes : (s : Sign) → Takes (sign s)
 sign_takes s = takes_then (lexeme_takes (S.Sign s)) (λ l. spelled_agrees l.place)

@@ -3,16 +3,16 @@ use Rattle.std.proofs.Common.{◌≡◌, ℕ, zero, suc, ◌+◌, ◌-◌, ◌�
 use Rattle.std.proofs.lemmas.List.{append-nil, length-append}
 use Rattle.sy_reader.specs.declared.fault.Fault.{Fault}
 use Rattle.sy_reader.specs.declared.fault.Fault.TheVariants as F
-use Rattle.sy_tree.specs.Lexemes.{Lexeme}
-use Rattle.sy_tree.specs.declared.sort.Sort.{Sort}
-use Rattle.sy_reader.specs.Reader.{Read, Reading, and_then, give, and_more, next_passes, while_at, many_at, with_first, Reads, begins_with, is_sort, each_behind, listed_at}
+use Rattle.sy_lex.specs.Lexemes.{Lexeme}
+use Rattle.sy_lex.specs.declared.token.TokenKind.{TokenKind}
+use Rattle.sy_reader.specs.Reader.{Read, Reading, and_then, give, and_more, next_passes, while_at, many_at, with_first, Reads, begins_with, is_kind, each_behind, listed_at}
 use Rattle.sy_lex.specs.declared.sign.Sign.TheVariants.{Comma}
 
 regroup : {A : Type 0} (front : List A) (x : A) (read : Read (List A)) → and_then (with_first x read) (λ xs. give (front ++ xs)) ≡ and_then read (λ xs. give ((front ++ x ∷ []) ++ xs))
 regroup front x (Ok found) = ap (λ (xs : List _). Ok (xs, found.1)) (simp append_assoc)
 regroup front x (Err left) = refl
 
-module _ {A : Type 0} (test : Sort → Bool) (item : Reading A) where
+module _ {A : Type 0} (test : TokenKind → Bool) (item : Reading A) where
   -- one more
   pub turn : (front : List A) (most : ℕ) (rest : List Lexeme) (x : A) (after : List Lexeme) (total : Read (List A)) → next_passes test rest ≡ true → item rest ≡ Ok (x, after)
       → and_more front (while_at test item (suc most)) rest ≡ total → and_more (front ++ x ∷ []) (while_at test item most) after ≡ total
@@ -44,17 +44,17 @@ module _ {A : Type 0} (test : Sort → Bool) (item : Reading A) where
   turn_full front rest total so_far = sym so_far ∙ ap (λ (xs : List A). Ok (xs, rest)) (append-nil front)
 
 -- what reading does where one is there
-pub while_first : {A : Type 0} (test : Sort → Bool) (item : Reading A) (most : ℕ) (rest : List Lexeme) → next_passes test rest ≡ true
+pub while_first : {A : Type 0} (test : TokenKind → Bool) (item : Reading A) (most : ℕ) (rest : List Lexeme) → next_passes test rest ≡ true
     → while_at test item (suc most) rest ≡ and_then (item rest) (λ x more. with_first x (while_at test item most more))
 unfolding while_at
 while_first test item most rest passes = rw passes refl
 
-pub passing_some : (test : Sort → Bool) (rest : List Lexeme) → next_passes test rest ≡ true → 0 < length rest
+pub passing_some : (test : TokenKind → Bool) (rest : List Lexeme) → next_passes test rest ≡ true → 0 < length rest
 passing_some test [] passes = absurd cc
 passing_some test (l ∷ ls) passes = omega arith
 
 -- the loop that reads all there are, where `limit` is how many lexemes it began with
-module _ {A : Type 0} (test : Sort → Bool) (item : Reading A) (front : List A) (limit : ℕ) (rest : List Lexeme) (total : Read (List A)) where
+module _ {A : Type 0} (test : TokenKind → Bool) (item : Reading A) (front : List A) (limit : ℕ) (rest : List Lexeme) (total : Read (List A)) where
   pub one_more : (new : List A) (x : A) (after : List Lexeme) → new ≡ front ++ x ∷ [] → next_passes test rest ≡ true → item rest ≡ Ok (x, after)
       → length rest + length front ≤ limit → and_more front (while_at test item (limit - length front)) rest ≡ total
       → and_more new (while_at test item (limit - length new)) after ≡ total
@@ -77,7 +77,7 @@ module _ {A : Type 0} (test : Sort → Bool) (item : Reading A) (front : List A)
   reads_fail (F.Syntax left) old new passes failed fits so_far is = sym is ∙ one_fails left passes failed fits so_far
 
 -- the loop that reads at most so many
-module _ {A : Type 0} (test : Sort → Bool) (item : Reading A) (front : List A) (left : ℕ) (rest : List Lexeme) (total : Read (List A)) where
+module _ {A : Type 0} (test : TokenKind → Bool) (item : Reading A) (front : List A) (left : ℕ) (rest : List Lexeme) (total : Read (List A)) where
   pub one_of_few : (new : List A) (x : A) (after : List Lexeme) → new ≡ front ++ x ∷ [] → 0 < left → next_passes test rest ≡ true → item rest ≡ Ok (x, after)
       → and_more front (while_at test item left) rest ≡ total → and_more new (while_at test item (left - 1)) after ≡ total
   one_of_few new x after is some passes found so_far =
@@ -110,9 +110,9 @@ reads_same (Ok x) from old new one other is e = sym is ∙ e
 reads_same (Err F.Memory) from old new one other is e = tt
 reads_same (Err (F.Syntax left)) from old new one other is e = sym is ∙ e
 
-pub begins_is : (sort : Sort) (lexemes : List Lexeme) → begins_with sort lexemes ≡ next_passes (λ found. is_sort found sort) lexemes
-begins_is sort [] = refl
-begins_is sort (l ∷ ls) = refl
+pub begins_is : (kind : TokenKind) (lexemes : List Lexeme) → begins_with kind lexemes ≡ next_passes (λ found. is_kind found kind) lexemes
+begins_is kind [] = refl
+begins_is kind (l ∷ ls) = refl
 
 -- a list from its first part and the others
 pub listed_from : {A : Type 0} (reading : Reading A) (first : A) (front : List A) (old mid : List Lexeme) → reading old ≡ Ok (first, mid) → front ≡ first ∷ []

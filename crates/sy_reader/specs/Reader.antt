@@ -1,19 +1,17 @@
 -- Reading lexemes from left to right. What can't be read is told by how many lexemes there are from the first one that
 -- doesn't fit to the end: none where the end doesn't.
-use Rattle.std.specs.Prelude.{◌≡◌, ◌++◌, ℕ, zero, suc, Bool, true, false, not, if◌then◌else◌, List, [], ◌∷◌, length, Option, Some, None, Result, Ok, Err}
+use Rattle.std.specs.Prelude.{◌≡◌, ◌++◌, ℕ, zero, suc, Bool, true, false, if◌then◌else◌, List, [], ◌∷◌, length, Option, Some, None, Result, Ok, Err}
 use denote.Enum.Bare.{sameb}
 use Rattle.sy_base.specs.declared.refusal.Place.{Place}
 use Rattle.sy_lex.specs.contracts.keyword.Keyword.{the_type as the_keywords}
 use Rattle.sy_lex.specs.contracts.sign.Sign.{the_type as the_signs}
 use Rattle.sy_lex.specs.declared.keyword.Keyword.{Keyword}
-use Rattle.sy_lex.specs.declared.keyword.Keyword.TheVariants as K
 use Rattle.sy_lex.specs.declared.sign.Sign.{Sign}
-use Rattle.sy_lex.specs.declared.sign.Sign.TheVariants.{Comma, Semicolon}
-use Rattle.sy_tree.specs.declared.sort.Sort.{Sort}
-use Rattle.sy_tree.specs.declared.sort.Sort.TheVariants as S
-use Rattle.sy_tree.specs.declared.written.Written.{Written}
-use Rattle.sy_tree.specs.declared.proposition.First.{First}
-use Rattle.sy_tree.specs.Lexemes.{Lexeme, written}
+use Rattle.sy_lex.specs.declared.sign.Sign.TheVariants.{Comma}
+use Rattle.sy_lex.specs.declared.token.TokenKind.{TokenKind}
+use Rattle.sy_lex.specs.declared.token.TokenKind.TheVariants as S
+use Rattle.sy_lex.specs.declared.written.Written.{Written}
+use Rattle.sy_lex.specs.Lexemes.{Lexeme, written}
 use Rattle.sy_reader.specs.declared.fault.Fault.{Fault}
 use Rattle.sy_reader.specs.declared.fault.Fault.TheVariants as F
 
@@ -36,14 +34,14 @@ abbrev pub fault_at : List Lexeme → Fault
 fault_at lexemes = F.Syntax (length lexemes)
 
 -- what was answered is the next lexeme, or that there is none
-abbrev pub Peeks : {X : Type 0} → (X → Lexeme) → Result X Fault → List Lexeme → Type 0
-Peeks view (Ok x) lexemes = (others : List Lexeme) × (lexemes ≡ view x ∷ others)
-Peeks view (Err fault) lexemes = (lexemes ≡ []) × (fault ≡ F.Syntax 0)
+abbrev pub Peeks : Result Lexeme Fault → List Lexeme → Type 0
+Peeks (Ok lexeme) lexemes = (others : List Lexeme) × (lexemes ≡ lexeme ∷ others)
+Peeks (Err fault) lexemes = (lexemes ≡ []) × (fault ≡ F.Syntax 0)
 
 -- what the next lexeme is
-abbrev pub next_sort : List Lexeme → Option Sort
-next_sort [] = None
-next_sort (l ∷ ls) = Some l.sort
+abbrev pub next_kind : List Lexeme → Option TokenKind
+next_kind [] = None
+next_kind (l ∷ ls) = Some l.kind
 
 -- reading one thing and then another
 abbrev pub and_then : {A B : Type 0} → Read A → (A → Reading B) → Read B
@@ -62,62 +60,62 @@ give x lexemes = Ok (x, lexemes)
 abbrev pub fail : {A : Type 0} → Reading A
 fail lexemes = Err (length lexemes)
 
--- two sorts are the same
-abbrev pub is_sort : Sort → Sort → Bool
-is_sort (S.Keyword a) (S.Keyword b) = sameb the_keywords a b
-is_sort (S.Sign a) (S.Sign b) = sameb the_signs a b
-is_sort S.Name S.Name = true
-is_sort S.Number S.Number = true
-is_sort S.Date S.Date = true
-is_sort S.Str S.Str = true
-is_sort a b = false
+-- two kinds are the same
+abbrev pub is_kind : TokenKind → TokenKind → Bool
+is_kind (S.Reserved a) (S.Reserved b) = sameb the_keywords a b
+is_kind (S.Sign a) (S.Sign b) = sameb the_signs a b
+is_kind S.Word S.Word = true
+is_kind S.Number S.Number = true
+is_kind S.Date S.Date = true
+is_kind S.Str S.Str = true
+is_kind a b = false
 
--- the next lexeme is of this sort
-abbrev pub begins_with : Sort → List Lexeme → Bool
-begins_with sort [] = false
-begins_with sort (l ∷ ls) = is_sort l.sort sort
+-- the next lexeme is of this kind
+abbrev pub begins_with : TokenKind → List Lexeme → Bool
+begins_with kind [] = false
+begins_with kind (l ∷ ls) = is_kind l.kind kind
 
--- one lexeme of this sort
-abbrev pub lexeme_at : Sort → Reading Lexeme
-lexeme_at sort [] = Err 0
-lexeme_at sort (l ∷ ls) = if is_sort l.sort sort then Ok (l, ls) else Err (suc (length ls))
+-- one lexeme of this kind
+abbrev pub lexeme_at : TokenKind → Reading Lexeme
+lexeme_at kind [] = Err 0
+lexeme_at kind (l ∷ ls) = if is_kind l.kind kind then Ok (l, ls) else Err (suc (length ls))
 
-abbrev pub token_at : Sort → Reading Written
-token_at sort = lexeme_at sort >>= λ l. give (written l)
+abbrev pub token_at : TokenKind → Reading Written
+token_at kind = lexeme_at kind >>= λ l. give (written l)
 
-abbrev pub place_at : Sort → Reading Place
-place_at sort = lexeme_at sort >>= λ l. give l.place
+abbrev pub place_at : TokenKind → Reading Place
+place_at kind = lexeme_at kind >>= λ l. give l.place
 
 abbrev pub keyword_at : Keyword → Reading Place
-keyword_at word = place_at (S.Keyword word)
+keyword_at word = place_at (S.Reserved word)
 
 abbrev pub sign_at : Sign → Reading Place
 sign_at s = place_at (S.Sign s)
 
 abbrev pub name_at : Reading Written
-name_at = token_at S.Name
+name_at = token_at S.Word
 
 -- the next lexeme, which stays
 abbrev pub ahead_at : Reading Written
 ahead_at [] = Err 0
 ahead_at (l ∷ ls) = Ok (written l, l ∷ ls)
 
--- a choice by the sort of the next lexeme
-abbrev pub by_next : {A : Type 0} → (Sort → Reading A) → Reading A
+-- a choice by the kind of the next lexeme
+abbrev pub by_next : {A : Type 0} → (TokenKind → Reading A) → Reading A
 by_next choice [] = Err 0
-by_next choice (l ∷ ls) = choice l.sort (l ∷ ls)
+by_next choice (l ∷ ls) = choice l.kind (l ∷ ls)
 
 -- the next lexeme passes a test
-abbrev pub next_passes : (Sort → Bool) → List Lexeme → Bool
+abbrev pub next_passes : (TokenKind → Bool) → List Lexeme → Bool
 next_passes test [] = false
-next_passes test (l ∷ ls) = test l.sort
+next_passes test (l ∷ ls) = test l.kind
 
 -- one thing more in front of those that are read
 abbrev pub with_first : {A : Type 0} → A → Read (List A) → Read (List A)
 with_first x read = and_then read (λ xs. give (x ∷ xs))
 
 -- as many as there are, while the next lexeme passes the test; but so many at most
-unfoldable pub while_at : {A : Type 0} → (Sort → Bool) → Reading A → ℕ → Reading (List A)
+unfoldable pub while_at : {A : Type 0} → (TokenKind → Bool) → Reading A → ℕ → Reading (List A)
 while_at test item zero lexemes = Ok ([], lexemes)
 while_at test item (suc most) lexemes =
     if next_passes test lexemes
@@ -125,7 +123,7 @@ while_at test item (suc most) lexemes =
     else Ok ([], lexemes)
 
 -- as many as there are
-abbrev pub many_at : {A : Type 0} → (Sort → Bool) → Reading A → Reading (List A)
+abbrev pub many_at : {A : Type 0} → (TokenKind → Bool) → Reading A → Reading (List A)
 many_at test item lexemes = while_at test item (length lexemes) lexemes
 
 abbrev pub behind_at : {A : Type 0} → Sign → Reading A → Reading A
@@ -139,7 +137,7 @@ between_at s reading t = behind_at s (before_at reading t)
 
 -- those behind a sign, so many at most
 abbrev pub each_behind : {A : Type 0} → Sign → Reading A → ℕ → Reading (List A)
-each_behind s reading most = while_at (λ sort. is_sort sort (S.Sign s)) (behind_at s reading) most
+each_behind s reading most = while_at (λ kind. is_kind kind (S.Sign s)) (behind_at s reading) most
 
 abbrev pub all_behind : {A : Type 0} → Sign → Reading A → Reading (List A)
 all_behind s reading lexemes = each_behind s reading (length lexemes) lexemes
@@ -159,27 +157,3 @@ listed_at reading = do
 abbrev pub maybe_listed_at : {A : Type 0} → Sign → Reading A → Reading (List A)
 maybe_listed_at s reading lexemes =
     if begins_with (S.Sign s) lexemes then Ok ([], lexemes) else listed_at reading lexemes
-
--- the headings of the parts of a contract, and the words that end a part
-abbrev pub is_heading : Sort → Bool
-is_heading (S.Keyword K.EndDomain) = true
-is_heading (S.Keyword K.Declarations) = true
-is_heading (S.Keyword K.Preconditions) = true
-is_heading (S.Keyword K.Postconditions) = true
-is_heading (S.Keyword K.Obligations) = true
-is_heading (S.Keyword K.Surviving) = true
-is_heading (S.Keyword K.Powers) = true
-is_heading (S.Keyword K.Constraints) = true
-is_heading (S.Keyword K.EndContract) = true
-is_heading sort = false
-
-abbrev pub has_line : List Lexeme → Bool
-has_line = next_passes (λ sort. not (is_heading sort))
-
--- lines up to the next heading, each with its semicolon
-abbrev pub ended_at : {A : Type 0} → Reading A → Reading (List A)
-ended_at line = many_at (λ sort. not (is_heading sort)) (before_at line Semicolon)
-
--- a lexeme as the first token of a proposition without brackets
-abbrev pub first_of : Lexeme → First
-first_of l = record { token = written l; bracket = None }

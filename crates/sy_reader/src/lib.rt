@@ -1,4 +1,4 @@
-//! Lexemes read from left to right, as every parser does it.
+//! Tokens read from left to right, as every parser does it.
 #![tactic(auto)]
 
 mod fault;
@@ -6,5 +6,5 @@ mod lexeme;
 mod reader;
 
 pub use fault::Fault;
-pub use lexeme::{Lexeme, lexemes, text};
-pub use reader::{Reader, first, is_heading};
+pub use lexeme::Lexeme;
+pub use reader::Reader;

@@ -1,46 +1,45 @@
-ghost use Rattle.std.specs.Prelude.{◌≡◌, ◌≤◌, ◌<◌, ◌++◌, List, length, IfOk, OnOk};
-ghost use Rattle.sy_tree.specs.Lexemes.{Lexeme as ALexeme, written as written_of};
-ghost use Rattle.sy_tree.specs.declared.sort.Sort.TheVariants as sorts;
+ghost use Rattle.std.specs.Prelude.{◌≡◌, ◌<◌, length, OnOk};
+ghost use Rattle.sy_lex.specs.Lexemes.{lexemes_of};
+ghost use Rattle.sy_lex.specs.declared.token.TokenKind.TheVariants as kinds;
 ghost use Rattle.sy_reader.specs.Reader as spec;
-ghost use Rattle.sy_reader.specs.Reader.{Peeks, Reads, begins_with, keyword_at, next_sort, sign_at, token_at};
+ghost use Rattle.sy_reader.specs.Reader.{Peeks, Reads, begins_with, keyword_at, next_kind, sign_at, token_at};
 
 use crate::fault::Fault;
 use crate::lexeme::Lexeme;
 use std::alloc::Global;
 use std::marker::Model;
-use sy_base::{List, Memory, Place, Text};
-use sy_lex::{Keyword, Sign};
-use sy_tree::{First, Sort, Written};
+use sy_base::Place;
+use sy_lex::{Keyword, Sign, Token, TokenKind, Written};
 
-/// The lexemes that are left to be read, of which contracts see the list.
+/// The tokens of a source that are left to be read, of which contracts see the lexemes.
 ///
 /// After a call that answered an error a reader is only dropped.
 #[derive(Debug, Drop)]
-pub struct Reader<'s, 'a> {
+pub struct Reader<'s> {
     alloc: Global,
-    lexemes: &'s [Lexeme<'a>],
-    /// How many were read.
-    at: usize,
+    source: &'s [u8],
+    /// Those that are left.
+    tokens: &'s [Token],
 }
 
-impl<'s, 'a> Model for Reader<'s, 'a> {
-    ghost use Rattle.std.specs.Prelude.{List, drop};
-    ghost use Rattle.sy_tree.specs.Lexemes.{Lexeme as ALexeme};
+impl<'s> Model for Reader<'s> {
+    ghost use Rattle.std.specs.Prelude.{List};
+    ghost use Rattle.sy_lex.specs.Lexemes.{Lexeme as ALexeme, lexemes_of};
 
     ghost Value = { List ALexeme };
 
-    ghost view = { λ reader. drop reader.at reader.lexemes.now };
+    ghost view = { λ reader. lexemes_of reader.source.now reader.tokens.now };
 }
 
-impl<'s, 'a> Reader<'s, 'a> {
-    /// A reader of these lexemes.
-    pub fn new(alloc: Global, lexemes: &'s [Lexeme<'a>]) -> Reader<'s, 'a>
-        ensures { result ≡ lexemes.now }
+impl<'s> Reader<'s> {
+    /// A reader of these tokens of the source.
+    pub fn new(alloc: Global, source: &'s [u8], tokens: &'s [Token]) -> Reader<'s>
+        ensures { result ≡ lexemes_of source.now tokens.now }
     {
         Reader {
             alloc,
-            lexemes,
-            at: 0,
+            source,
+            tokens,
         }
     }
 
@@ -53,7 +52,7 @@ impl<'s, 'a> Reader<'s, 'a> {
     pub fn left(&self) -> usize
         ensures { result ≡ length self.now }
     {
-        self.lexemes.len().saturating_sub(self.at)
+        self.tokens.len()
     }
 
     /// That the next lexeme, or the end, doesn't fit.
@@ -64,47 +63,55 @@ impl<'s, 'a> Reader<'s, 'a> {
     }
 
     /// What the next lexeme is, if one is left.
-    pub fn next(&self) -> Option<Sort>
-        ensures { result ≡ next_sort self.now }
+    pub fn next(&self) -> Option<TokenKind>
+        ensures { result ≡ next_kind self.now }
     {
-        match self.lexemes.get(self.at) {
-            Some(lexeme) => Some(lexeme.sort),
-            None => None,
+        match self.tokens {
+            [token, ..] => Some(token.kind),
+            [] => None,
         }
     }
 
-    /// Whether the next lexeme is of this sort.
-    pub fn begins(&self, sort: Sort) -> bool
-        ensures { result ≡ begins_with sort self.now }
+    /// Whether the next lexeme is of this kind.
+    pub fn begins(&self, kind: TokenKind) -> bool
+        ensures { result ≡ begins_with kind self.now }
     {
         match self.next() {
-            Some(found) => is_sort(found, sort),
+            Some(found) => is_kind(found, kind),
             None => false,
         }
     }
 
     /// The next lexeme, which stays.
-    pub fn ahead(&self) -> Result<&'s Lexeme<'a>, Fault>
-        ensures { Peeks (λ lexeme. lexeme.now) result self.now }
+    pub fn ahead(&self) -> Result<Lexeme<'s>, Fault>
+        ensures { Peeks result self.now }
     {
-        match self.lexemes.get(self.at) {
-            Some(lexeme) => Ok(lexeme),
-            None => Err(self.fault()),
+        match self.tokens {
+            [token, ..] => Ok(Lexeme::of(self.source, token)),
+            [] => Err(self.fault()),
         }
     }
 
-    /// Reads a lexeme of this sort, for its place.
-    pub fn place(&mut self, sort: Sort) -> Result<Place, Fault>
-        ensures gives { Reads result self.old self.new (spec.place_at sort) }
+    /// Reads a lexeme of this kind.
+    fn lexeme(&mut self, kind: TokenKind) -> Result<Lexeme<'s>, Fault>
+        ensures gives { Reads result self.old self.new (spec.lexeme_at kind) }
         ensures shorter { OnOk result (length self.new < length self.old) }
     {
-        if let Some(lexeme) = self.lexemes.get(self.at)
-            && is_sort(lexeme.sort, sort)
+        if let [token, rest @ ..] = self.tokens
+            && is_kind(token.kind, kind)
         {
-            self.at += 1;
-            return Ok(lexeme.place);
+            self.tokens = rest;
+            return Ok(Lexeme::of(self.source, token));
         }
         Err(self.fault())
+    }
+
+    /// Reads a lexeme of this kind, for its place.
+    pub fn place(&mut self, kind: TokenKind) -> Result<Place, Fault>
+        ensures gives { Reads result self.old self.new (spec.place_at kind) }
+        ensures shorter { OnOk result (length self.new < length self.old) }
+    {
+        Ok(self.lexeme(kind)?.place)
     }
 
     /// Reads a reserved word.
@@ -112,7 +119,7 @@ impl<'s, 'a> Reader<'s, 'a> {
         ensures gives { Reads result self.old self.new (keyword_at keyword) }
         ensures shorter { OnOk result (length self.new < length self.old) }
     {
-        self.place(Sort::Keyword(keyword))
+        self.place(TokenKind::Reserved(keyword))
     }
 
     /// Reads a sign.
@@ -120,84 +127,38 @@ impl<'s, 'a> Reader<'s, 'a> {
         ensures gives { Reads result self.old self.new (sign_at sign) }
         ensures shorter { OnOk result (length self.new < length self.old) }
     {
-        self.place(Sort::Sign(sign))
+        self.place(TokenKind::Sign(sign))
     }
 
-    /// Reads a token of this sort, with its text.
-    pub fn token(&mut self, sort: Sort) -> Result<Written, Fault>
-        ensures gives { Reads result self.old self.new (token_at sort) }
+    /// Reads a token of this kind, with its text.
+    pub fn token(&mut self, kind: TokenKind) -> Result<Written, Fault>
+        ensures gives { Reads result self.old self.new (token_at kind) }
         ensures shorter { OnOk result (length self.new < length self.old) }
     {
-        if let Some(lexeme) = self.lexemes.get(self.at)
-            && is_sort(lexeme.sort, sort)
-        {
-            self.at += 1;
-            return Ok(written(self.alloc, lexeme)?);
-        }
-        Err(self.fault())
+        let lexeme = self.lexeme(kind)?;
+        Ok(lexeme.written(self.alloc)?)
     }
 
     /// Reads a name.
     pub fn name(&mut self) -> Result<Written, Fault>
-        ensures gives { Reads result self.old self.new (token_at sorts.Name) }
+        ensures gives { Reads result self.old self.new (token_at kinds.Word) }
         ensures shorter { OnOk result (length self.new < length self.old) }
     {
-        self.token(Sort::Name)
+        self.token(TokenKind::Word)
     }
 }
 
-/// Whether two sorts are the same.
-fn is_sort(a: Sort, b: Sort) -> bool
-    ensures { result ≡ spec.is_sort a b }
+/// Whether two kinds are the same.
+fn is_kind(a: TokenKind, b: TokenKind) -> bool
+    ensures { result ≡ spec.is_kind a b }
 {
     match (a, b) {
-        (Sort::Keyword(a), Sort::Keyword(b)) => a == b,
-        (Sort::Sign(a), Sort::Sign(b)) => a == b,
-        (Sort::Name, Sort::Name) => true,
-        (Sort::Number, Sort::Number) => true,
-        (Sort::Date, Sort::Date) => true,
-        (Sort::Str, Sort::Str) => true,
+        (TokenKind::Reserved(a), TokenKind::Reserved(b)) => a == b,
+        (TokenKind::Sign(a), TokenKind::Sign(b)) => a == b,
+        (TokenKind::Word, TokenKind::Word) => true,
+        (TokenKind::Number, TokenKind::Number) => true,
+        (TokenKind::Date, TokenKind::Date) => true,
+        (TokenKind::Str, TokenKind::Str) => true,
         _ => false,
     }
-}
-
-/// Whether it is the heading of a part of the contract, or ends a part.
-pub fn is_heading(sort: Sort) -> bool
-    ensures { result ≡ spec.is_heading sort }
-{
-    let Sort::Keyword(keyword) = sort else {
-        return false;
-    };
-    matches!(
-        keyword,
-        Keyword::EndDomain
-            | Keyword::Declarations
-            | Keyword::Preconditions
-            | Keyword::Postconditions
-            | Keyword::Obligations
-            | Keyword::Surviving
-            | Keyword::Powers
-            | Keyword::Constraints
-            | Keyword::EndContract
-    )
-}
-
-/// The lexeme as a tree keeps it.
-pub fn written(alloc: Global, lexeme: &Lexeme<'_>) -> Result<Written, Memory>
-    ensures { IfOk result (λ w. w ≡ written_of lexeme.now) }
-{
-    Ok(Written {
-        text: Text::new(alloc, lexeme.text)?,
-        place: lexeme.place,
-    })
-}
-
-/// The lexeme as the first token of a proposition without brackets round it.
-pub fn first(alloc: Global, lexeme: &Lexeme<'_>) -> Result<First, Memory>
-    ensures { IfOk result (λ first. first ≡ spec.first_of lexeme.now) }
-{
-    Ok(First {
-        token: written(alloc, lexeme)?,
-        bracket: None,
-    })
 }

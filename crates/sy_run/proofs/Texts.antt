@@ -12,8 +12,7 @@ use Rattle.sy_lex.specs.Tokens as lex
 use Rattle.sy_lex.specs.Tokens.{HasText, IsLexFault}
 use Rattle.sy_tree.specs.declared.contract.SpecTree.{SpecTree}
 use Rattle.sy_tree.specs.declared.binding.BindTree.{BindTree}
-use Rattle.sy_tree.specs.Lexemes.{Lexeme}
-use Rattle.sy_tree.specs.Spelling.{lexemes_of}
+use Rattle.sy_lex.specs.Lexemes.{Lexeme, lexemes_of}
 use Rattle.sy_parse.specs.Faults as faults
 use Rattle.sy_parse.specs.Faults.{IsSyntaxFault}
 use Rattle.sy_run.specs.FirstPath.{due_date, start_date}

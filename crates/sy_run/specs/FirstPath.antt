@@ -19,7 +19,7 @@ use Rattle.sy_tree.specs.CanonicalText.{canonical_text}
 use Rattle.sy_tree.specs.declared.binding.BindTree.{BindTree}
 use Rattle.sy_tree.specs.declared.binding.GivenTree.{GivenTree}
 use Rattle.sy_tree.specs.declared.contract.SpecTree.{SpecTree}
-use Rattle.sy_tree.specs.declared.written.Written.{Written}
+use Rattle.sy_lex.specs.declared.written.Written.{Written}
 use Rattle.sy_run.specs.declared.first_path.Entry.{Entry}
 use Rattle.sy_run.specs.declared.first_path.Entry.TheVariants.{Blank, Paid, Report}
 

@@ -11,8 +11,8 @@ use Rattle.sy_lex.specs.declared.token.Token.{Token}
 use Rattle.sy_lex.specs.Tokens.{HasText, IsLexFault}
 use Rattle.sy_tree.specs.declared.contract.SpecTree.{SpecTree}
 use Rattle.sy_tree.specs.declared.binding.BindTree.{BindTree}
-use Rattle.sy_tree.specs.Lexemes.{Lexeme}
-use Rattle.sy_tree.specs.Spelling.{SpellsSpec, SpellsBinding, lexemes_of}
+use Rattle.sy_lex.specs.Lexemes.{Lexeme, lexemes_of}
+use Rattle.sy_tree.specs.Spelling.{SpellsSpec, SpellsBinding}
 use Rattle.sy_parse.specs.Faults.{IsSyntaxFault}
 use Rattle.sy_run.specs.FirstPath.{due_date, start_date, deed}
 use Rattle.sy_run.specs.RefusalText.{whole}

@@ -132,15 +132,15 @@ date_bare (a ∷ b ∷ c ∷ d ∷ p ∷ e ∷ f ∷ q ∷ g ∷ h ∷ rest) som
 bare : (kind : TokenKind) (text : List ℕ) → class_of_kind kind ≢ c.quote → HasForm kind text
     → (k : ℕ) → k < length text → IsBareByte (get_or text k 0)
 bare K.Word text plain f k within = word_bare (get_or text k 0) (f.0.each k within)
-bare K.Reserved text plain f k within =
-    let word = subst IsWord f.1 (keyword_is_word f.0) in word_bare (get_or text k 0) (word.each k within)
+bare (K.Reserved keyword) text plain f k within =
+    let word = subst IsWord f (keyword_is_word keyword) in word_bare (get_or text k 0) (word.each k within)
 bare K.Number text plain f k within = digit_bare (get_or text k 0) (f.each k within)
 bare K.Date text plain f k within =
     All-get_or IsBareByte text k 0 within (All-from_recursion IsBareByte text (date_bare text f))
 bare K.Str text plain f k within = absurd (plain refl)
-bare K.Sign text plain f k within =
-    let each = AllPass-from_list_all is_bare (sign_text f.0) (sign_bare f.0) in
-    All-get_or IsBareByte text k 0 within (subst (All IsBareByte) f.1 each)
+bare (K.Sign sign) text plain f k within =
+    let each = AllPass-from_list_all is_bare (sign_text sign) (sign_bare sign) in
+    All-get_or IsBareByte text k 0 within (subst (All IsBareByte) f each)
 
 -- ---- what is taken
 
@@ -202,7 +202,7 @@ module _ (text : List ℕ) (behind : ℕ) (rest : List ℕ) (blank : is_blank be
   token_first K.Str form =
       string_found (text ++ behind ∷ rest) (length text) (subst IsString (sym front) form) within
   token_first K.Word form = plain_first K.Word (λ e. absurd cc) form
-  token_first K.Reserved form = plain_first K.Reserved (λ e. absurd cc) form
+  token_first (K.Reserved keyword) form = plain_first (K.Reserved keyword) (λ e. absurd cc) form
   token_first K.Number form = plain_first K.Number (λ e. absurd cc) form
   token_first K.Date form = plain_first K.Date (λ e. absurd cc) form
-  token_first K.Sign form = plain_first K.Sign (λ e. absurd cc) form
+  token_first (K.Sign sign) form = plain_first (K.Sign sign) (λ e. absurd cc) form

@@ -1,69 +1,14 @@
--- A text of words has these as its tokens, and the tokens of a text have the forms of their sorts.
+-- A text of words has these as its tokens, and the tokens of a text have the forms of their kinds.
 use Rattle.std.proofs.Common.{◌≡◌, ◌⊎◌, ℕ, ◌+◌, ◌-◌, true, List, [], ◌∷◌, ◌++◌, length, take, drop, Option, Some, refl, sym, ap, subst, ◌∙◌, arith, inl, inr}
 use Rattle.std.proofs.lemmas.List.{take_at, drop_at, drop-drop, take-append-drop}
 use Rattle.sy_lex.specs.declared.token.Token.{Token}
-use Rattle.sy_lex.specs.declared.token.TokenKind.{TokenKind}
-use Rattle.sy_lex.specs.declared.token.TokenKind.TheVariants as K
-use Rattle.sy_lex.specs.declared.keyword.Keyword.{Keyword}
-use Rattle.sy_lex.specs.declared.sign.Sign.{Sign}
-use Rattle.sy_lex.specs.declared.sign.Sign.TheVariants as G
 use Rattle.sy_lex.specs.Bytes.{is_blank}
-use Rattle.sy_lex.specs.Signs.{sign_text, sign_at}
 use Rattle.sy_lex.specs.Forms.{HasForm}
 use Rattle.sy_lex.specs.Tokens as t
 use Rattle.sy_lex.specs.Tokens.{IsFirst, Lexes, HasText, comment_length, first_spot, next_spot, spot_after, token_at}
-use Rattle.sy_lex.proofs.Words.{keyword_found}
-use Rattle.sy_tree.specs.declared.sort.Sort.{Sort}
-use Rattle.sy_tree.specs.declared.sort.Sort.TheVariants as S
-use Rattle.sy_tree.specs.Lexemes.{sort_of, sort_of_keyword, sort_of_sign, text_of}
-use Rattle.sy_tree.specs.Spelling.{lexemes_of}
-use Rattle.sy_tree.proofs.PrintedWords.{Word, bytes_of, IsForm, AreWords, AreTokens, Alike}
+use Rattle.sy_lex.specs.Lexemes.{text_of, lexemes_of}
+use Rattle.sy_tree.proofs.PrintedWords.{Word, bytes_of, AreWords, AreTokens, Alike}
 use Rattle.sy_tree.proofs.BlankBehind.{token_first}
-
--- ---- sorts and kinds
-
--- The equation for any sign is checked at each of the signs but the first.
-its_own : (sign : Sign) → sign_at (sign_text sign) ≡ Some sign
-its_own G.Colon = refl
-its_own sign = refl
-
-sign_is : (sign : Sign) (text : List ℕ) → sign_text sign ≡ text → sign_at text ≡ Some sign
-sign_is sign text is = ap sign_at (sym is) ∙ its_own sign
-
--- the kind of the tokens of a sort
-abbrev kind_of : Sort → TokenKind
-kind_of (S.Keyword word) = K.Reserved
-kind_of (S.Sign sign) = K.Sign
-kind_of S.Name = K.Word
-kind_of S.Number = K.Number
-kind_of S.Date = K.Date
-kind_of S.Str = K.Str
-
-form_of : (sort : Sort) (text : List ℕ) → IsForm sort text → HasForm (kind_of sort) text
-form_of (S.Keyword word) text form = (word, form)
-form_of (S.Sign sign) text form = (sign, form)
-form_of S.Name text form = form
-form_of S.Number text form = form
-form_of S.Date text form = form
-form_of S.Str text form = form
-
-sort_back : (sort : Sort) (text : List ℕ) → IsForm sort text → sort_of (kind_of sort) text ≡ sort
-sort_back (S.Keyword word) text form = ap sort_of_keyword (keyword_found text word form)
-sort_back (S.Sign sign) text form = ap sort_of_sign (sign_is sign text form)
-sort_back S.Name text form = refl
-sort_back S.Number text form = refl
-sort_back S.Date text form = refl
-sort_back S.Str text form = refl
-
-form_back : (kind : TokenKind) (text : List ℕ) → HasForm kind text → IsForm (sort_of kind text) text
-form_back K.Word text form = form
-form_back K.Reserved text form =
-    subst (λ (o : Option Keyword). IsForm (sort_of_keyword o) text) (sym (keyword_found text form.0 form.1)) form.1
-form_back K.Number text form = form
-form_back K.Date text form = form
-form_back K.Str text form = form
-form_back K.Sign text form =
-    subst (λ (o : Option Sign). IsForm (sort_of_sign o) text) (sym (sign_is form.0 text form.1)) form.1
 
 -- ---- where bytes stand in the source
 
@@ -124,17 +69,15 @@ words_from source (w ∷ ws) at (form, behind, words) is =
     let here = rest_after source at w.text rest is in
     let next = rest_next source spot w.behind (bytes_of ws) here in
     let more = words_from source ws (next_spot spot w.behind) words next in
-    let kind = kind_of w.sort in
-    let first = token_first w.text w.behind (bytes_of ws) blank kind (form_of w.sort w.text form) in
+    let first = token_first w.text w.behind (bytes_of ws) blank w.kind form in
     let front : take n (w.text ++ rest) ≡ w.text = take_at w.text rest n refl in
     let back : drop n (w.text ++ rest) ≡ rest = drop_at w.text rest n refl in
     let later : Lexes (spot_after at (take n (w.text ++ rest))) (drop n (w.text ++ rest)) more.0 =
     rw (front, back) (t.blank spot w.behind (bytes_of ws) more.0 blank more.1) in
-    let text = text_there source at n (w.text ++ rest) is ∙ front in
-    let sort = ap (sort_of kind) text ∙ sort_back w.sort w.text form in (
-      token_at kind n at ∷ more.0,
-      t.token at kind n (w.text ++ rest) more.0 first later,
-      (sort, text, more.2),
+    let text = text_there source at n (w.text ++ rest) is ∙ front in (
+      token_at w.kind n at ∷ more.0,
+      t.token at w.kind n (w.text ++ rest) more.0 first later,
+      (refl, text, more.2),
     )
 
 -- a text of words has exactly these words as its tokens
@@ -157,11 +100,11 @@ tokens_from source at bytes tokens (t.comment a more others d) is =
     tokens_from source (spot_after a inside) (drop n more) others d rest
 tokens_from source at bytes tokens (t.token a kind n all others first d) is =
     let text = text_there source a n all is in (
-      subst (λ (bs : List ℕ). IsForm (sort_of kind bs) bs) (sym text) (form_back kind (take n all) first.form),
+      subst (HasForm kind) (sym text) first.form,
       tokens_from source (spot_after a (take n all)) (drop n all) others d (rest_drop source a n all is),
     )
 
--- a token of a text has the form of its sort
+-- a token of a text has the form of its kind
 pub tokens_are : (source : List ℕ) (tokens : List Token) → HasText tokens source
     → AreTokens (lexemes_of source tokens)
 tokens_are source tokens text = tokens_from source first_spot source tokens text refl

@@ -1,7 +1,7 @@
 -- The canonical text of a tree that is spelled is a text of words, and lexemes like these words spell an equal tree.
 use Rattle.std.proofs.Common.{◌≡◌, List, []}
 use Rattle.sy_tree.specs.declared.contract.SpecTree.{SpecTree}
-use Rattle.sy_tree.specs.Lexemes.{Lexeme}
+use Rattle.sy_lex.specs.Lexemes.{Lexeme}
 use Rattle.sy_tree.specs.Spelling.{SpellsSpec}
 use Rattle.sy_tree.specs.CanonicalText.{canonical_text}
 use Rattle.sy_tree.specs.Equality.{SameSpec}

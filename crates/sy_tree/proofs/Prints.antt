@@ -5,23 +5,23 @@ use Rattle.sy_base.specs.declared.refusal.Place.{Place}
 use Rattle.sy_lex.specs.declared.keyword.Keyword.{Keyword}
 use Rattle.sy_lex.specs.declared.sign.Sign.{Sign}
 use Rattle.sy_lex.specs.declared.sign.Sign.TheVariants.{Semicolon}
-use Rattle.sy_lex.specs.Forms.{IsNumber}
+use Rattle.sy_lex.specs.Forms.{IsNumber, HasForm}
 use Rattle.sy_lex.specs.Keywords.{keyword_text}
 use Rattle.sy_lex.specs.Signs.{sign_text}
-use Rattle.sy_tree.specs.declared.sort.Sort.{Sort}
-use Rattle.sy_tree.specs.declared.sort.Sort.TheVariants as S
-use Rattle.sy_tree.specs.declared.written.Written.{Written}
-use Rattle.sy_tree.specs.Lexemes.{Lexeme, written}
+use Rattle.sy_lex.specs.declared.token.TokenKind.{TokenKind}
+use Rattle.sy_lex.specs.declared.token.TokenKind.TheVariants as S
+use Rattle.sy_lex.specs.declared.written.Written.{Written}
+use Rattle.sy_lex.specs.Lexemes.{Lexeme, written}
 use Rattle.sy_tree.specs.Grammar.{Rule, spelled, ◌>>=◌, lexeme, token, keyword, sign}
 use Rattle.sy_tree.specs.CanonicalText as T
 use Rattle.sy_tree.specs.Equality.{here, plain, plain_number}
-use Rattle.sy_tree.proofs.PrintedWords.{Word, bytes_of, IsForm, AreWords, AreTokens, Alike}
+use Rattle.sy_tree.proofs.PrintedWords.{Word, bytes_of, AreWords, AreTokens, Alike}
 
--- the lexemes from `from` to `rest` have the sorts and texts of the words
+-- the lexemes from `from` to `rest` have the kinds and texts of the words
 abbrev pub Reads : List Word → List Lexeme → List Lexeme → Type 0
 Reads [] from rest = from ≡ rest
 Reads (w ∷ ws) from rest =
-    (l : Lexeme) × (others : List Lexeme) × (from ≡ l ∷ others) × (l.sort ≡ w.sort) × (l.text ≡ w.text)
+    (l : Lexeme) × (others : List Lexeme) × (from ≡ l ∷ others) × (l.kind ≡ w.kind) × (l.text ≡ w.text)
     × Reads ws others rest
 
 pub split_reads : (ws us : List Word) (from rest : List Lexeme) → Reads (ws ++ us) from rest
@@ -123,29 +123,29 @@ pub record Prints {A : Type 0} (R : Rule A) (text : A → List ℕ) (plain : A �
 abbrev IsBlank : ℕ → Type 0
 IsBlank b = (b ≡ 32) ⊎ (b ≡ 10)
 
--- one lexeme of this sort and text, of which the rule keeps something
+-- one lexeme of this kind and text, of which the rule keeps something
 pub lexeme_printed : {A : Type 0} {plain : A → A} {x : A}
-    (sort : Sort) (text : List ℕ) (blank : ℕ) (keep : Lexeme → A)
-    → IsForm sort text → IsBlank blank → ((l : Lexeme) → l.text ≡ text → plain (keep l) ≡ plain x)
-    → Printed (lexeme sort >>= λ l. spelled (keep l)) plain x (text ++ blank ∷ [])
-lexeme_printed sort text blank keep form is_blank same = record {
-  words = record { sort = sort; text = text; behind = blank } ∷ [];
+    (kind : TokenKind) (text : List ℕ) (blank : ℕ) (keep : Lexeme → A)
+    → HasForm kind text → IsBlank blank → ((l : Lexeme) → l.text ≡ text → plain (keep l) ≡ plain x)
+    → Printed (lexeme kind >>= λ l. spelled (keep l)) plain x (text ++ blank ∷ [])
+lexeme_printed kind text blank keep form is_blank same = record {
+  words = record { kind = kind; text = text; behind = blank } ∷ [];
   are = record { words = (form, is_blank, tt); bytes = refl };
   says = record { tree = λ from rest r. (keep r.0, (r.0, r.1, (r.2, r.3), (refl, r.5)), same r.0 r.4) };
 }
 
 -- the tokens behind one lexeme, and that it has a form
-pub behind_lexeme : {A : Type 0} {keep : Lexeme → A} {from rest : List Lexeme} {x : A} (sort : Sort) → AreTokens from
-    → (lexeme sort >>= λ l. spelled (keep l)) from x rest
-    → ((l : Lexeme) × IsForm sort l.text × (keep l ≡ x)) × AreTokens rest
-behind_lexeme sort tokens d =
+pub behind_lexeme : {A : Type 0} {keep : Lexeme → A} {from rest : List Lexeme} {x : A} (kind : TokenKind) → AreTokens from
+    → (lexeme kind >>= λ l. spelled (keep l)) from x rest
+    → ((l : Lexeme) × HasForm kind l.text × (keep l ≡ x)) × AreTokens rest
+behind_lexeme kind tokens d =
     let all = subst AreTokens d.2.0 tokens in
-    ((d.0, subst (λ sort. IsForm sort d.0.text) d.2.1 all.0, d.3.0), subst AreTokens d.3.1 all.1)
+    ((d.0, subst (λ kind. HasForm kind d.0.text) d.2.1 all.0, d.3.0), subst AreTokens d.3.1 all.1)
 
 keyword_at : (k : Keyword) (blank : ℕ) → IsBlank blank → (place : Place)
     → Printed (keyword k) (λ _. here) place (keyword_text k ++ blank ∷ [])
 keyword_at k blank is_blank place =
-    lexeme_printed (S.Keyword k) (keyword_text k) blank (λ l. l.place) refl is_blank (λ _ _. refl)
+    lexeme_printed (S.Reserved k) (keyword_text k) blank (λ l. l.place) refl is_blank (λ _ _. refl)
 
 sign_at : (s : Sign) (blank : ℕ) → IsBlank blank → (place : Place)
     → Printed (sign s) (λ _. here) place (sign_text s ++ blank ∷ [])
@@ -153,21 +153,21 @@ sign_at s blank is_blank place =
     lexeme_printed (S.Sign s) (sign_text s) blank (λ l. l.place) refl is_blank (λ _ _. refl)
 
 -- a single lexeme of which only the place is kept
-at_place : {text : List ℕ} (sort : Sort)
-    → ((place : Place) → Printed (lexeme sort >>= λ l. spelled l.place) (λ _. here) place text)
-    → Prints (lexeme sort >>= λ l. spelled l.place) (λ _. text) (λ _. here)
-at_place {text} sort p = record { at = λ from place rest tokens d. (p place, (behind_lexeme sort tokens d).1) }
+at_place : {text : List ℕ} (kind : TokenKind)
+    → ((place : Place) → Printed (lexeme kind >>= λ l. spelled l.place) (λ _. here) place text)
+    → Prints (lexeme kind >>= λ l. spelled l.place) (λ _. text) (λ _. here)
+at_place {text} kind p = record { at = λ from place rest tokens d. (p place, (behind_lexeme kind tokens d).1) }
 
 pub keyword_printed : (k : Keyword) (place : Place) → Printed (keyword k) (λ _. here) place (T.keyword k)
 unfolding T.keyword T.word
 keyword_printed k = keyword_at k 32 (inl refl)
 
 pub word_of : (k : Keyword) → Prints (keyword k) (λ _. T.keyword k) (λ _. here)
-word_of k = at_place (S.Keyword k) (keyword_printed k)
+word_of k = at_place (S.Reserved k) (keyword_printed k)
 
 pub heading_of : (k : Keyword) → Prints (keyword k) (λ _. T.heading k) (λ _. here)
 unfolding T.heading T.last
-heading_of k = at_place (S.Keyword k) (keyword_at k 10 (inr refl))
+heading_of k = at_place (S.Reserved k) (keyword_at k 10 (inr refl))
 
 pub sign_printed : (s : Sign) (place : Place) → Printed (sign s) (λ _. here) place (T.sign s)
 unfolding T.sign T.word
@@ -181,25 +181,25 @@ unfolding T.semicolon T.last
 semicolon_of = at_place (S.Sign Semicolon) (sign_at Semicolon 10 (inr refl))
 
 -- a token that keeps its text
-as_it_is : (sort : Sort) (blank : ℕ) → IsBlank blank → Prints (token sort) (λ t. t.text ++ blank ∷ []) plain
-as_it_is sort blank is_blank = record {
+as_it_is : (kind : TokenKind) (blank : ℕ) → IsBlank blank → Prints (token kind) (λ t. t.text ++ blank ∷ []) plain
+as_it_is kind blank is_blank = record {
   at = λ from x rest tokens d.
-      let a = behind_lexeme sort tokens d in
-      let form : IsForm sort x.text = subst (λ (y : Written). IsForm sort y.text) a.0.2 a.0.1 in
-      (lexeme_printed sort x.text blank written form is_blank (λ _ h. λ i. record { text = h i; place = here }), a.1);
+      let a = behind_lexeme kind tokens d in
+      let form : HasForm kind x.text = subst (λ (y : Written). HasForm kind y.text) a.0.2 a.0.1 in
+      (lexeme_printed kind x.text blank written form is_blank (λ _ h. λ i. record { text = h i; place = here }), a.1);
 }
 
-pub token_of : (sort : Sort) → Prints (token sort) T.token plain
+pub token_of : (kind : TokenKind) → Prints (token kind) T.token plain
 unfolding T.word
-token_of sort = as_it_is sort 32 (inl refl)
+token_of kind = as_it_is kind 32 (inl refl)
 
-pub name_of : Prints (token S.Name) T.token plain
-name_of = token_of S.Name
+pub name_of : Prints (token S.Word) T.token plain
+name_of = token_of S.Word
 
 -- a name that ends its line
-pub last_name : Prints (token S.Name) (λ t. T.last t.text) plain
+pub last_name : Prints (token S.Word) (λ t. T.last t.text) plain
 unfolding T.last
-last_name = as_it_is S.Name 10 (inr refl)
+last_name = as_it_is S.Word 10 (inr refl)
 
 -- ---- numbers
 

@@ -1,11 +1,11 @@
 -- Rules that begin with a look at their first lexeme print too.
 use Rattle.std.proofs.Common.{◌≡◌, inl, inr, ℕ, List, [], ◌∷◌, subst, ◌∙◌, refl, None}
 use Rattle.sy_tree.specs.declared.proposition.First.{First}
-use Rattle.sy_tree.specs.Lexemes.{Lexeme, written}
+use Rattle.sy_lex.specs.Lexemes.{Lexeme, written}
 use Rattle.sy_tree.specs.Grammar.{Rule, ◌>>=◌, ◌or◌, lexeme}
 use Rattle.sy_tree.specs.Propositions.{begins}
 use Rattle.sy_tree.specs.Equality.{no_first}
-use Rattle.sy_tree.specs.declared.sort.Sort.{Sort}
+use Rattle.sy_lex.specs.declared.token.TokenKind.{TokenKind}
 use Rattle.sy_tree.proofs.PrintedWords.{Word, AreTokens}
 use Rattle.sy_tree.proofs.Prints.{Reads, Says, printed, Prints}
 use Rattle.sy_tree.proofs.PrintsRules.{Follows, as_text}
@@ -22,8 +22,8 @@ not_empty_or {A} {R} {Q} r q = record {
   never = λ x rest d. elim d [ inl d ↦ r.never x rest d | inr d ↦ q.never x rest d ];
 }
 
-pub not_empty_lexeme : {C : Type 0} {sort : Sort} {next : Lexeme → Rule C} → NotEmpty (lexeme sort >>= next)
-not_empty_lexeme {C} {sort} {next} = record { never = λ x rest d. let e = d.2.0 in absurd cc }
+pub not_empty_lexeme : {C : Type 0} {kind : TokenKind} {next : Lexeme → Rule C} → NotEmpty (lexeme kind >>= next)
+not_empty_lexeme {C} {kind} {next} = record { never = λ x rest d. let e = d.2.0 in absurd cc }
 
 pub not_empty_begins : {C : Type 0} {next : First → Rule C} → NotEmpty (begins >>= next)
 not_empty_begins {C} {next} = record { never = λ x rest d. let e = d.2.2.2 in absurd cc }

@@ -8,7 +8,7 @@ use Rattle.sy_base.specs.declared.refusal.Place.{Place}
 use Rattle.sy_tree.specs.declared.proposition.First.{First}
 use Rattle.sy_tree.specs.declared.proposition.PropTree.{PropTree}
 use Rattle.sy_tree.specs.declared.proposition.PropTree.TheVariants as P
-use Rattle.sy_tree.specs.Lexemes.{Lexeme}
+use Rattle.sy_lex.specs.Lexemes.{Lexeme}
 use Rattle.sy_tree.specs.Grammar.{Rule, Many, ◌>>=◌, keyword, many, before}
 use Rattle.sy_tree.specs.Propositions.{in_brackets, atom, joined, chain, conj_of, prop_of, negation, brackets, neg, prop}
 use Rattle.sy_tree.specs.CanonicalText as T

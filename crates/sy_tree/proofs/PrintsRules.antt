@@ -6,7 +6,7 @@ use Rattle.sy_base.specs.declared.refusal.Place.{Place}
 use Rattle.sy_lex.specs.declared.keyword.Keyword.{Keyword}
 use Rattle.sy_lex.specs.declared.sign.Sign.{Sign}
 use Rattle.sy_lex.specs.declared.sign.Sign.TheVariants.{Comma}
-use Rattle.sy_tree.specs.Lexemes.{Lexeme}
+use Rattle.sy_lex.specs.Lexemes.{Lexeme}
 use Rattle.sy_tree.specs.Grammar.{Rule, Many, spelled, ◌>>=◌, ◌or◌, keyword, many, up_to, before, behind, between, listed, maybe_listed, ended}
 use Rattle.sy_tree.specs.CanonicalText as T
 use Rattle.sy_tree.specs.Equality.{here}

@@ -3,7 +3,7 @@ use Rattle.std.proofs.Common.{inl, inr, ℕ, List, ◌∷◌, ◌++◌, map, ref
 use Rattle.sy_lex.specs.declared.keyword.Keyword.{Keyword}
 use Rattle.sy_lex.specs.declared.keyword.Keyword.TheVariants as K
 use Rattle.sy_lex.specs.declared.sign.Sign.TheVariants.{Colon, Comma, Open, Close, Assign, Arrow}
-use Rattle.sy_tree.specs.declared.sort.Sort.TheVariants as S
+use Rattle.sy_lex.specs.declared.token.TokenKind.TheVariants as S
 use Rattle.sy_tree.specs.declared.domain.TypeTree.{TypeTree}
 use Rattle.sy_tree.specs.declared.domain.TypeTree.TheVariants as AType
 use Rattle.sy_tree.specs.declared.domain.BaseTree.TheVariants as Base
@@ -61,14 +61,14 @@ is_a_ok = record {
 -- the two kinds of types, each as a rule of its own
 abbrev enumerated : Rule TypeTree
 enumerated = do
-  name ← token S.Name
+  name ← token S.Word
   _ ← keyword K.IsA or keyword K.IsAn
   constants ← G.enumeration
   spelled (AType.Enumeration name constants)
 
 abbrev derived : Rule TypeTree
 derived = do
-  name ← token S.Name
+  name ← token S.Word
   _ ← keyword K.IsA or keyword K.IsAn
   base ← G.base
   attributes ← G.with_listed G.attr

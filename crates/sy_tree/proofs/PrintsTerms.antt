@@ -10,7 +10,7 @@ use Rattle.sy_lex.specs.declared.keyword.Keyword.{Keyword}
 use Rattle.sy_lex.specs.declared.keyword.Keyword.TheVariants as K
 use Rattle.sy_lex.specs.declared.sign.Sign.{Sign}
 use Rattle.sy_lex.specs.declared.sign.Sign.TheVariants.{Dot, Open, Close, OpenBracket, CloseBracket, Equal, NotEqual, Less, AtMost, Greater, AtLeast, Plus, Minus, Times}
-use Rattle.sy_tree.specs.declared.sort.Sort.TheVariants as S
+use Rattle.sy_lex.specs.declared.token.TokenKind.TheVariants as S
 use Rattle.sy_tree.specs.declared.position.TargetTree.TheVariants as Target
 use Rattle.sy_tree.specs.declared.term.RhsTree.TheVariants as Rhs
 use Rattle.sy_tree.specs.declared.term.SumTree.TheVariants as Sum
@@ -22,7 +22,7 @@ use Rattle.sy_tree.specs.declared.proposition.GuardTree.{GuardTree}
 use Rattle.sy_tree.specs.declared.proposition.CmpTree.{CmpTree}
 use Rattle.sy_tree.specs.declared.proposition.EventTree.TheVariants as Event
 use Rattle.sy_lex.specs.Keywords.{keyword_text}
-use Rattle.sy_tree.specs.Lexemes.{Lexeme}
+use Rattle.sy_lex.specs.Lexemes.{Lexeme}
 use Rattle.sy_tree.proofs.PrintedWords.{AreTokens}
 use Rattle.sy_tree.specs.Grammar.{lexeme, spelled, ◌>>=◌, ◌or◌, sign, listed, between, token}
 use Rattle.sy_tree.specs.Terms as G
@@ -134,15 +134,15 @@ situation_ok =
 
 -- either word of a measure, of which the second is printed
 plural_ok : (one several : Keyword)
-    → Prints (lexeme (S.Keyword one) or lexeme (S.Keyword several)) (λ _. T.keyword several)
-    (λ _. record { sort = S.Name; text = []; place = E.here })
+    → Prints (lexeme (S.Reserved one) or lexeme (S.Reserved several)) (λ _. T.keyword several)
+    (λ _. record { kind = S.Word; text = []; place = E.here })
 unfolding T.keyword T.word
 plural_ok one several = record {
   at = λ from l rest tokens d.
       let is : from ≡ l ∷ rest = elim d [ inl h ↦ h.0 | inr h ↦ h.0 ] in
       let all : AreTokens (l ∷ rest) = subst AreTokens is tokens in (
         record {
-          words = record { sort = S.Keyword several; text = keyword_text several; behind = 32 } ∷ [];
+          words = record { kind = S.Reserved several; text = keyword_text several; behind = 32 } ∷ [];
           are = record { words = (refl, inl refl, tt); bytes = refl };
           says = record { tree = λ from rest r. (r.0, inr (r.2 ∙ ap (λ ls. r.0 ∷ ls) r.5, r.3), refl) };
         },

@@ -5,7 +5,7 @@ use Rattle.sy_base.specs.declared.memory.Memory.{Memory}
 use Rattle.sy_tree.specs.declared.contract.SpecTree.{SpecTree}
 use Rattle.sy_tree.specs.CanonicalText.{canonical_text}
 use Rattle.sy_tree.specs.ReadingBack.{IsSpelled, IsReadBack}
-use Rattle.sy_tree.specs.Spelling.{lexemes_of}
+use Rattle.sy_lex.specs.Lexemes.{lexemes_of}
 use Rattle.sy_tree.proofs.PrintedWords.{bytes_of}
 use Rattle.sy_tree.proofs.PrintedLexes.{words_lex, tokens_are}
 use Rattle.sy_tree.proofs.PrintedSpelling.{printed_spells}

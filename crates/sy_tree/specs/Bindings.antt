@@ -2,7 +2,7 @@
 use Rattle.std.specs.Prelude.{true, false}
 use Rattle.sy_lex.specs.declared.keyword.Keyword.TheVariants as K
 use Rattle.sy_lex.specs.declared.sign.Sign.TheVariants.{Semicolon, OpenBrace, CloseBrace, Assign, Minus}
-use Rattle.sy_tree.specs.declared.sort.Sort.TheVariants as S
+use Rattle.sy_lex.specs.declared.token.TokenKind.TheVariants as S
 use Rattle.sy_tree.specs.declared.binding.BindTree.{BindTree}
 use Rattle.sy_tree.specs.declared.binding.GivenTree.{GivenTree}
 use Rattle.sy_tree.specs.declared.binding.BoundTree.{BoundTree}
@@ -24,12 +24,12 @@ value =
     or (token S.Date >>= λ x. spelled (Value.Date x))
     or (keyword K.True >>= λ place. spelled (Value.Const true place))
     or (keyword K.False >>= λ place. spelled (Value.Const false place))
-    or (token S.Name >>= λ x. spelled (Value.Name x))
+    or (token S.Word >>= λ x. spelled (Value.Name x))
 
 -- NAME ":=" value
 abbrev pub field : Rule FieldTree
 field = do
-  name ← before (token S.Name) Assign
+  name ← before (token S.Word) Assign
   value ← value
   spelled (record { name = name; value = value })
 
@@ -45,7 +45,7 @@ bound =
 -- NAME ":=" bound
 abbrev pub given : Rule GivenTree
 given = do
-  name ← before (token S.Name) Assign
+  name ← before (token S.Word) Assign
   bound ← bound
   spelled (record { name = name; bound = bound })
 

@@ -12,7 +12,7 @@ use Rattle.sy_lex.specs.declared.sign.Sign.{Sign}
 use Rattle.sy_lex.specs.declared.sign.Sign.TheVariants.{Colon, Semicolon, Comma, Dot, Open, Close, OpenBracket, CloseBracket, Assign, Arrow, Equal, NotEqual, Less, AtMost, Greater, AtLeast, Plus, Minus, Times}
 use Rattle.sy_lex.specs.Keywords.{keyword_text}
 use Rattle.sy_lex.specs.Signs.{sign_text}
-use Rattle.sy_tree.specs.declared.written.Written.{Written}
+use Rattle.sy_lex.specs.declared.written.Written.{Written}
 use Rattle.sy_tree.specs.declared.term.RhsTree.{RhsTree}
 use Rattle.sy_tree.specs.declared.term.RhsTree.TheVariants as Rhs
 use Rattle.sy_tree.specs.declared.term.TermTree.{TermTree}

@@ -2,7 +2,7 @@
 -- zeros, and which of its two words a measure has.
 use Rattle.std.specs.Prelude.{◌≡◌, [], map, Option, Some, None}
 use Rattle.sy_base.specs.declared.refusal.Place.{Place}
-use Rattle.sy_tree.specs.declared.written.Written.{Written}
+use Rattle.sy_lex.specs.declared.written.Written.{Written}
 use Rattle.sy_tree.specs.declared.term.RhsTree.{RhsTree}
 use Rattle.sy_tree.specs.declared.term.RhsTree.TheVariants as Rhs
 use Rattle.sy_tree.specs.declared.term.TermTree.{TermTree}

@@ -4,10 +4,10 @@ use Rattle.sy_base.specs.declared.refusal.Place.{Place}
 use Rattle.sy_lex.specs.declared.keyword.Keyword.{Keyword}
 use Rattle.sy_lex.specs.declared.sign.Sign.{Sign}
 use Rattle.sy_lex.specs.declared.sign.Sign.TheVariants.{Comma, Semicolon}
-use Rattle.sy_tree.specs.declared.sort.Sort.TheVariants as S
-use Rattle.sy_tree.specs.declared.sort.Sort.{Sort}
-use Rattle.sy_tree.specs.declared.written.Written.{Written}
-use Rattle.sy_tree.specs.Lexemes.{Lexeme, written}
+use Rattle.sy_lex.specs.declared.token.TokenKind.TheVariants as S
+use Rattle.sy_lex.specs.declared.token.TokenKind.{TokenKind}
+use Rattle.sy_lex.specs.declared.written.Written.{Written}
+use Rattle.sy_lex.specs.Lexemes.{Lexeme, written}
 
 -- `R from x rest`: the lexemes `from` begin with some that R spells as x, and `rest` stands behind them
 abbrev pub Rule : Type 0 → Type 1
@@ -27,20 +27,20 @@ infixl 8 ◌or◌
 abbrev pub ◌or◌ : {A : Type 0} → Rule A → Rule A → Rule A
 (R or other) from x rest = R from x rest ⊎ other from x rest
 
--- one lexeme of this sort
-abbrev pub lexeme : Sort → Rule Lexeme
-lexeme sort from l rest = (from ≡ l ∷ rest) × (l.sort ≡ sort)
+-- one lexeme of this kind
+abbrev pub lexeme : TokenKind → Rule Lexeme
+lexeme kind from l rest = (from ≡ l ∷ rest) × (l.kind ≡ kind)
 
 -- a token that the tree keeps: a name, a number, a date or a text between quotes
-abbrev pub token : Sort → Rule Written
-token sort = do
-  l ← lexeme sort
+abbrev pub token : TokenKind → Rule Written
+token kind = do
+  l ← lexeme kind
   spelled (written l)
 
 -- a reserved word, which the tree keeps as its place
 abbrev pub keyword : Keyword → Rule Place
 keyword word = do
-  l ← lexeme (S.Keyword word)
+  l ← lexeme (S.Reserved word)
   spelled l.place
 
 -- a sign, which the tree keeps as its place

@@ -1,4 +1,3 @@
-pub mod Lexemes
 pub mod Grammar
 pub mod Terms
 pub mod Propositions

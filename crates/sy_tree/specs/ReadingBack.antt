@@ -4,7 +4,8 @@ use Rattle.sy_lex.specs.declared.token.Token.{Token}
 use Rattle.sy_lex.specs.Tokens.{HasText}
 use Rattle.sy_tree.specs.declared.contract.SpecTree.{SpecTree}
 use Rattle.sy_tree.specs.Equality.{SameSpec}
-use Rattle.sy_tree.specs.Spelling.{SpellsSpec, lexemes_of}
+use Rattle.sy_lex.specs.Lexemes.{lexemes_of}
+use Rattle.sy_tree.specs.Spelling.{SpellsSpec}
 
 -- the tokens of some text spell the tree
 abbrev pub IsSpelled : SpecTree → Type 0

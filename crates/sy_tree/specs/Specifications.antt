@@ -7,7 +7,7 @@ use Rattle.sy_core.specs.declared.position.Verb.TheVariants as V
 use Rattle.sy_lex.specs.declared.keyword.Keyword.{Keyword}
 use Rattle.sy_lex.specs.declared.keyword.Keyword.TheVariants as K
 use Rattle.sy_lex.specs.declared.sign.Sign.TheVariants.{Colon, Comma, Open, Close, Assign, Arrow}
-use Rattle.sy_tree.specs.declared.sort.Sort.TheVariants as S
+use Rattle.sy_lex.specs.declared.token.TokenKind.TheVariants as S
 use Rattle.sy_tree.specs.declared.domain.DomainTree.{DomainTree}
 use Rattle.sy_tree.specs.declared.domain.TypeTree.{TypeTree}
 use Rattle.sy_tree.specs.declared.domain.TypeTree.TheVariants as AType
@@ -34,7 +34,7 @@ use Rattle.sy_tree.specs.Propositions.{prop}
 abbrev pub enumeration : Rule EnumTree
 enumeration = do
   _ ← keyword K.Enumeration
-  constants ← between Open (listed (token S.Name)) Close
+  constants ← between Open (listed (token S.Word)) Close
   spelled (record { constants = constants })
 
 -- base = "Role" | "Asset" | "Event" | NAME
@@ -43,14 +43,14 @@ base =
     (keyword K.Role >>= λ place. spelled (Base.Role place))
     or (keyword K.Asset >>= λ place. spelled (Base.Asset place))
     or (keyword K.Event >>= λ place. spelled (Base.Event place))
-    or (token S.Name >>= λ name. spelled (Base.Named name))
+    or (token S.Word >>= λ name. spelled (Base.Named name))
 
 -- attr = [ "Env" ] NAME ":" NAME
 abbrev pub attr : Rule AttrTree
 attr = do
   env ← maybe (keyword K.Env)
-  name ← before (token S.Name) Colon
-  type_name ← token S.Name
+  name ← before (token S.Word) Colon
+  type_name ← token S.Word
   spelled (record { env = env; name = name; type_name = type_name })
 
 -- [ "with" R { "," R } ]
@@ -60,7 +60,7 @@ with_listed R = (keyword K.With >>= λ _. listed R) or spelled []
 -- type = NAME ( "isA" | "isAn" ) ( enum | base [ "with" attr { "," attr } ] )
 abbrev pub type : Rule TypeTree
 type = do
-  name ← token S.Name
+  name ← token S.Word
   _ ← keyword K.IsA or keyword K.IsAn
   (enumeration >>= λ constants. spelled (AType.Enumeration name constants))
       or (do
@@ -72,7 +72,7 @@ type = do
 abbrev pub domain : Rule DomainTree
 domain = do
   _ ← keyword K.Domain
-  name ← token S.Name
+  name ← token S.Word
   types ← ended type
   _ ← keyword K.EndDomain
   spelled (record { name = name; types = types })
@@ -90,22 +90,22 @@ unit from x rest = keyword (unit_word x.unit) from x.place rest
 -- param = NAME ":" NAME
 abbrev pub param : Rule ParamTree
 param = do
-  name ← before (token S.Name) Colon
-  type_name ← token S.Name
+  name ← before (token S.Word) Colon
+  type_name ← token S.Word
   spelled (record { name = name; type_name = type_name })
 
 -- give = NAME ":=" rhs
 abbrev pub give : Rule GiveTree
 give = do
-  name ← before (token S.Name) Assign
+  name ← before (token S.Word) Assign
   value ← rhs
   spelled (record { name = name; value = value })
 
 -- decl = NAME ":" NAME [ "with" give { "," give } ]
 abbrev pub decl : Rule DeclTree
 decl = do
-  name ← before (token S.Name) Colon
-  type_name ← token S.Name
+  name ← before (token S.Word) Colon
+  type_name ← token S.Word
   gives ← with_listed give
   spelled (record { name = name; type_name = type_name; gives = gives })
 
@@ -116,11 +116,11 @@ trigger = maybe (before prop Arrow)
 -- oblig = NAME ":" [ prop "->" ] "O" "(" NAME "," NAME "," prop "," prop ")"
 abbrev pub oblig : Rule ObligTree
 oblig = do
-  name ← before (token S.Name) Colon
+  name ← before (token S.Word) Colon
   trigger ← trigger
   _ ← keyword K.O
-  debtor ← between Open (token S.Name) Comma
-  creditor ← before (token S.Name) Comma
+  debtor ← between Open (token S.Word) Comma
+  creditor ← before (token S.Word) Comma
   antecedent ← before prop Comma
   consequent ← before prop Close
   spelled (record { name = name; trigger = trigger; debtor = debtor; creditor = creditor; antecedent = antecedent; consequent = consequent })
@@ -147,11 +147,11 @@ act = do
 -- power = NAME ":" [ prop "->" ] "P" "(" NAME "," NAME "," prop "," act ")"
 abbrev pub power : Rule PowerTree
 power = do
-  name ← before (token S.Name) Colon
+  name ← before (token S.Word) Colon
   trigger ← trigger
   _ ← keyword K.P
-  holder ← between Open (token S.Name) Comma
-  other_party ← before (token S.Name) Comma
+  holder ← between Open (token S.Word) Comma
+  other_party ← before (token S.Word) Comma
   antecedent ← before prop Comma
   act ← before act Close
   spelled (record { name = name; trigger = trigger; holder = holder; other_party = other_party; antecedent = antecedent; act = act })
@@ -168,7 +168,7 @@ surviving_section = (keyword K.Surviving >>= λ _. keyword K.Obligations >>= λ 
 abbrev pub contract : Rule ContractTree
 contract = do
   place ← keyword K.Contract
-  name ← token S.Name
+  name ← token S.Word
   parameters ← between Open (maybe_listed param) Close
   _ ← keyword K.Unit
   unit ← unit

@@ -1,15 +1,10 @@
 -- What spells a tree: its lexemes, by its rule, with none left behind them.
-use Rattle.std.specs.Prelude.{ℕ, List, [], map}
-use Rattle.sy_lex.specs.declared.token.Token.{Token}
+use Rattle.std.specs.Prelude.{List, []}
 use Rattle.sy_tree.specs.declared.contract.SpecTree.{SpecTree}
 use Rattle.sy_tree.specs.declared.binding.BindTree.{BindTree}
-use Rattle.sy_tree.specs.Lexemes.{Lexeme, lexeme_of}
+use Rattle.sy_lex.specs.Lexemes.{Lexeme}
 use Rattle.sy_tree.specs.Specifications.{spec}
 use Rattle.sy_tree.specs.Bindings.{binding}
-
--- the tokens of a source, as the grammar sees them
-abbrev pub lexemes_of : List ℕ → List Token → List Lexeme
-lexemes_of source tokens = map (lexeme_of source) tokens
 
 -- these lexemes spell the specification
 abbrev pub SpellsSpec : SpecTree → List Lexeme → Type 0

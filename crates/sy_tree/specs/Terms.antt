@@ -11,7 +11,7 @@ use Rattle.sy_lex.specs.declared.keyword.Keyword.{Keyword}
 use Rattle.sy_lex.specs.declared.keyword.Keyword.TheVariants as K
 use Rattle.sy_lex.specs.declared.sign.Sign.{Sign}
 use Rattle.sy_lex.specs.declared.sign.Sign.TheVariants.{Dot, Open, Close, OpenBracket, CloseBracket, Equal, NotEqual, Less, AtMost, Greater, AtLeast, Plus, Minus, Times}
-use Rattle.sy_tree.specs.declared.sort.Sort.TheVariants as S
+use Rattle.sy_lex.specs.declared.token.TokenKind.TheVariants as S
 use Rattle.sy_tree.specs.declared.position.TargetTree.{TargetTree}
 use Rattle.sy_tree.specs.declared.position.TargetTree.TheVariants as Target
 use Rattle.sy_tree.specs.declared.term.RhsTree.{RhsTree}
@@ -35,23 +35,23 @@ use Rattle.sy_tree.specs.declared.proposition.EventTree.{EventTree}
 use Rattle.sy_tree.specs.declared.proposition.EventTree.TheVariants as Event
 use Rattle.sy_tree.specs.declared.proposition.GuardTree.{GuardTree}
 use Rattle.sy_tree.specs.declared.proposition.SituationTree.{SituationTree}
-use Rattle.sy_tree.specs.Lexemes.{written}
+use Rattle.sy_lex.specs.Lexemes.{written}
 use Rattle.sy_tree.specs.Grammar.{Rule, spelled, ◌>>=◌, ◌or◌, lexeme, token, keyword, sign, many, up_to, behind, between, listed}
 
 -- path = NAME [ "." NAME [ "." NAME ] ]
 abbrev pub path : Rule PathTree
 path =
     (do
-      name ← token S.Name
+      name ← token S.Word
       spelled (Path.Name name))
     or (do
-      name ← token S.Name
-      attribute ← behind Dot (token S.Name)
+      name ← token S.Word
+      attribute ← behind Dot (token S.Word)
       spelled (Path.Attribute name attribute))
     or (do
-      name ← token S.Name
-      attribute ← behind Dot (token S.Name)
-      inner ← behind Dot (token S.Name)
+      name ← token S.Word
+      attribute ← behind Dot (token S.Word)
+      inner ← behind Dot (token S.Word)
       spelled (Path.Inner name attribute inner))
 
 -- single = NUMBER | "-" NUMBER | STR | DATE | path
@@ -108,13 +108,13 @@ cmp =
 -- target = NAME | "contract"
 abbrev pub target : Rule TargetTree
 target =
-    (token S.Name >>= λ x. spelled (Target.Named x))
+    (token S.Word >>= λ x. spelled (Target.Named x))
     or (keyword K.ThisContract >>= λ place. spelled (Target.Contract place))
 
 -- guard = NAME cmp rhs
 abbrev pub guard : Rule GuardTree
 guard = do
-  name ← token S.Name
+  name ← token S.Word
   cmp ← cmp
   value ← rhs
   spelled (record { name = name; cmp = cmp; value = value })
@@ -140,9 +140,9 @@ internal_kind from x rest = keyword (kind_word x.0) from x.1 rest
 -- event = NAME [ "[" guard { "," guard } "]" ] | kind "(" target ")"
 abbrev pub event : Rule EventTree
 event =
-    (token S.Name >>= λ name. spelled (Event.Declared name []))
+    (token S.Word >>= λ name. spelled (Event.Declared name []))
     or (do
-      name ← token S.Name
+      name ← token S.Word
       guards ← between OpenBracket (listed guard) CloseBracket
       spelled (Event.Declared name guards))
     or (do
@@ -156,13 +156,13 @@ situation = do
   place ← keyword K.State
   target ← between Open target Close
   equal ← (sign Equal >>= λ _. spelled true) or (sign NotEqual >>= λ _. spelled false)
-  state ← token S.Name
+  state ← token S.Word
   spelled (record { place = place; target = target; equal = equal; state = state })
 
 -- measure = "Minute" | "Minutes" | "Hour" | "Hours" | "Day" | "Days" | "Week" | "Weeks"
 abbrev pub measured : Keyword → Keyword → Measure → Rule MeasureTree
 measured one several measure = do
-  l ← lexeme (S.Keyword one) or lexeme (S.Keyword several)
+  l ← lexeme (S.Reserved one) or lexeme (S.Reserved several)
   spelled (record { measure = measure; word = written l })
 
 abbrev pub measure : Rule MeasureTree

@@ -8,9 +8,7 @@ mod date;
 mod domain;
 mod position;
 mod proposition;
-mod sort;
 mod term;
-mod written;
 
 pub use binding::{BindTree, BoundTree, FieldTree, GivenTree, ValueTree};
 pub use canonical::print;
@@ -19,7 +17,6 @@ pub use date::{CountTree, DateTree, DurationTree, MeasureTree, MomentTree};
 pub use domain::{AttrTree, BaseTree, DomainTree, EnumTree, TypeTree};
 pub use position::{ActTree, ObligTree, PowerTree, TargetTree, VerbTree};
 pub use proposition::{CmpTree, EventTree, First, GuardTree, PropTree, SituationTree};
-pub use sort::Sort;
 pub use sy_core::{Boxed, Items};
+pub use sy_lex::Written;
 pub use term::{FactorTree, PathTree, RhsTree, SingleTree, SumTree, TermTree};
-pub use written::Written;

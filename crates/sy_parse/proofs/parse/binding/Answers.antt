@@ -1,5 +1,6 @@
 use Rattle.sy_base.specs.declared.refusal.FileKind.TheVariants.{Bind}
-use Rattle.sy_tree.specs.Spelling.{SpellsBinding, lexemes_of}
+use Rattle.sy_lex.specs.Lexemes.{lexemes_of}
+use Rattle.sy_tree.specs.Spelling.{SpellsBinding}
 use Rattle.sy_parse.specs.ReadingSpecifications.{whole_at}
 use Rattle.sy_parse.specs.ReadingBindings.{binding_at}
 use Rattle.sy_parse.proofs.Agreeing.{binding_is_read, read_is_binding, one_binding}

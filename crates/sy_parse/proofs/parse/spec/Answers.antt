@@ -1,5 +1,6 @@
 use Rattle.sy_base.specs.declared.refusal.FileKind.TheVariants.{Spec}
-use Rattle.sy_tree.specs.Spelling.{SpellsSpec, lexemes_of}
+use Rattle.sy_lex.specs.Lexemes.{lexemes_of}
+use Rattle.sy_tree.specs.Spelling.{SpellsSpec}
 use Rattle.sy_parse.specs.ReadingSpecifications.{spec_at, whole_at}
 use Rattle.sy_parse.proofs.Agreeing.{spec_is_read, read_is_spec, one_spec}
 use Rattle.sy_parse.proofs.Answering.{is_found, is_only, is_fault}

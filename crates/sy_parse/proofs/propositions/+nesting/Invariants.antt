@@ -1,7 +1,7 @@
 use Rattle.std.proofs.Common.{◌≡◌, ◌≤◌, ◌<◌, ◌+◌, ◌*◌, ◌-◌, length}
 use Rattle.sy_lex.specs.declared.keyword.Keyword.TheVariants.{And, Or}
-use Rattle.sy_tree.specs.declared.sort.Sort.TheVariants as S
-use Rattle.sy_reader.specs.Reader.{and_more, while_at, is_sort}
+use Rattle.sy_lex.specs.declared.token.TokenKind.TheVariants as S
+use Rattle.sy_reader.specs.Reader.{and_more, while_at, is_kind}
 use Rattle.sy_parse.specs.ReadingPropositions.{neg_at, conj_of_at, link_at}
 use Rattle.sy_parse.proofs.propositions.+nesting.Given as goal
 
@@ -39,8 +39,8 @@ abbrev pub invariant-more_negs-part : goal.invariant-more_negs-part
 invariant-more_negs-part l = record {
   some : 0 < length l.parts;
   fits : length l.reader + length l.parts ≤ length l.initial.reader + 1;
-  read : and_more l.parts (while_at (λ sort. is_sort sort (S.Keyword And)) (link_at And (neg_at l.levels)) (length l.initial.reader + 1 - length l.parts)) l.reader
-      ≡ and_more l.initial.parts (while_at (λ sort. is_sort sort (S.Keyword And)) (link_at And (neg_at l.levels)) (length l.initial.reader)) l.initial.reader;
+  read : and_more l.parts (while_at (λ kind. is_kind kind (S.Reserved And)) (link_at And (neg_at l.levels)) (length l.initial.reader + 1 - length l.parts)) l.reader
+      ≡ and_more l.initial.parts (while_at (λ kind. is_kind kind (S.Reserved And)) (link_at And (neg_at l.levels)) (length l.initial.reader)) l.initial.reader;
 }
 
 abbrev pub decreases-more_negs-part : goal.decreases-more_negs-part
@@ -50,8 +50,8 @@ abbrev pub invariant-more_conjs-part : goal.invariant-more_conjs-part
 invariant-more_conjs-part l = record {
   some : 0 < length l.parts;
   fits : length l.reader + length l.parts ≤ length l.initial.reader + 1;
-  read : and_more l.parts (while_at (λ sort. is_sort sort (S.Keyword Or)) (link_at Or (conj_of_at (neg_at l.levels))) (length l.initial.reader + 1 - length l.parts)) l.reader
-      ≡ and_more l.initial.parts (while_at (λ sort. is_sort sort (S.Keyword Or)) (link_at Or (conj_of_at (neg_at l.levels))) (length l.initial.reader)) l.initial.reader;
+  read : and_more l.parts (while_at (λ kind. is_kind kind (S.Reserved Or)) (link_at Or (conj_of_at (neg_at l.levels))) (length l.initial.reader + 1 - length l.parts)) l.reader
+      ≡ and_more l.initial.parts (while_at (λ kind. is_kind kind (S.Reserved Or)) (link_at Or (conj_of_at (neg_at l.levels))) (length l.initial.reader)) l.initial.reader;
 }
 
 abbrev pub decreases-more_conjs-part : goal.decreases-more_conjs-part
