@@ -18,8 +18,8 @@ use Rattle.sy_core.specs.declared.deed.Deed.{Deed}
 use Rattle.sy_core.specs.declared.happening.Happening.{Happening}
 use Rattle.sy_core.specs.Chronicle.{exerts, at_point, chronicle, moment_at}
 use Rattle.sy_core.specs.Moments.{Moment}
-use Rattle.sy_core.specs.Narrative.{is_dated}
-use Rattle.sy_core.specs.Rounds.{Among}
+use Rattle.sy_core.specs.Values.{is_dated}
+use Rattle.std.specs.List.{Contains}
 use Rattle.sy_core.specs.Soundness.{IsSound, is_sound_step, is_sound_prop}
 use Rattle.sy_core.specs.Tables.{is_void, marks, marks_at}
 use Rattle.sy_axioms.proofs.Members.{any_of_kept}
@@ -62,14 +62,14 @@ pub first_has_no_posts : (d : Deed) → IsFirstDeed d → d.posts ≡ []
 first_has_no_posts d first = ap (λ (x : Deed). x.posts) first.is
 
 -- no payment exerts a power
-none_exerts : (i : ℕ) (kept : Happening → Bool) (noted : List Happening) → ((h : Happening) → Among noted h → h ≡ payment h.point)
+none_exerts : (i : ℕ) (kept : Happening → Bool) (noted : List Happening) → ((h : Happening) → Contains noted h → h ≡ payment h.point)
     → list_any (λ (h : Happening). kept h && exerts i h.what) noted ≡ false
 none_exerts i kept [] paid = refl
 none_exerts i kept (h ∷ noted) paid =
     let here : (kept h && exerts i h.what) ≡ false = ap (λ (k : Happening). kept h && exerts i k.what) (paid h (inl refl)) ∙ and-false (kept h) in
     λ j. here j || none_exerts i kept noted (λ k a. paid k (inr a)) j
 
-module _ (noted : List Happening) (paid : (h : Happening) → Among noted h → h ≡ payment h.point) where
+module _ (noted : List Happening) (paid : (h : Happening) → Contains noted h → h ≡ payment h.point) where
   none_asked : (point : ℤ) (i : ℕ) → list_any (exerts i) (at_point noted point) ≡ false
   none_asked point i =
       any_of_kept (λ (h : Happening). h.what) (λ h. int_eq h.point point) (exerts i) noted ∙ none_exerts i (λ h. int_eq h.point point) noted paid

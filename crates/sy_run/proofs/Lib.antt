@@ -1,10 +1,9 @@
 pub mod AllNoted
 pub mod Answering
-pub mod Completing
 pub mod FirstDeeds
 pub mod Fitting
 pub mod Marking
-pub mod Monitoring
+pub mod Runs
 pub mod Noting
 pub mod Printable
 pub mod Replying

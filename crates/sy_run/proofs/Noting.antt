@@ -6,20 +6,20 @@ use Rattle.std.specs.declared.cmp.Ordering.TheVariants.{Less, Equal, Greater}
 use Rattle.std.specs.BTreeSet.{BTreeSet, contains}
 use Rattle.std.proofs.lemmas.Map.Lookups.{exact_signed}
 use Rattle.sy_core.specs.declared.happening.Happening.{Happening}
-use Rattle.sy_core.specs.Rounds.{Among}
+use Rattle.std.specs.List.{Contains}
 use Rattle.sy_run.specs.Output.{payment}
-use Rattle.sy_run.specs.Holding.{Holds}
+use Rattle.sy_run.specs.Machine.Holding.{Holds}
 
-among_left : (xs : List Happening) (x h : Happening) → Among xs h → Among (xs ++ x ∷ []) h
+among_left : (xs : List Happening) (x h : Happening) → Contains xs h → Contains (xs ++ x ∷ []) h
 among_left [] x h a = absurd a
 among_left (y ∷ ys) x h (inl e) = inl e
 among_left (y ∷ ys) x h (inr a) = inr (among_left ys x h a)
 
-among_last : (xs : List Happening) (x : Happening) → Among (xs ++ x ∷ []) x
+among_last : (xs : List Happening) (x : Happening) → Contains (xs ++ x ∷ []) x
 among_last [] x = inl refl
 among_last (y ∷ ys) x = inr (among_last ys x)
 
-among_either : (xs : List Happening) (x h : Happening) → Among (xs ++ x ∷ []) h → Among xs h ⊎ (x ≡ h)
+among_either : (xs : List Happening) (x h : Happening) → Contains (xs ++ x ∷ []) h → Contains xs h ⊎ (x ≡ h)
 among_either [] x h (inl e) = inr e
 among_either [] x h (inr a) = absurd a
 among_either (y ∷ ys) x h (inl e) = inl (inl e)
@@ -48,7 +48,7 @@ holds_more old new noted point updates there holds = record {
     | inr e ↦ subst (λ (k : Happening). IsTrue (contains int_cmp new k.point)) e there
   ];
   noted_all = λ q t. elim (equal_or (int_cmp point q) (contains int_cmp old q) (sym (updates q) ∙ t)) [
-    | inl e ↦ subst (λ (r : ℤ). Among (noted ++ payment point ∷ []) (payment r)) (exact_signed point q e) (among_last noted (payment point))
+    | inl e ↦ subst (λ (r : ℤ). Contains (noted ++ payment point ∷ []) (payment r)) (exact_signed point q e) (among_last noted (payment point))
     | inr b ↦ among_left noted (payment point) (payment q) (holds.noted_all q b)
   ];
 }

@@ -15,7 +15,7 @@ use Rattle.sy_core.specs.declared.state.StateOf.TheVariants as S
 use Rattle.sy_core.specs.declared.table.Mark.{Mark}
 use Rattle.sy_core.specs.Chronicle.{chronicle, moment_at, state_at}
 use Rattle.sy_core.specs.Moments.{Moment}
-use Rattle.sy_core.specs.Tables.{is_broken, is_void, marks, marks_at, states_of, table_before, table_after}
+use Rattle.sy_core.specs.Tables.{is_violated, is_void, marks, marks_at, states_of, table_before, table_after}
 use Rattle.sy_run.specs.Printing.{IsPrintable}
 use Rattle.sy_run.proofs.Marking.{one_moment}
 
@@ -73,6 +73,6 @@ pub after_is_printable : (d : Deed) (narrative : List Happening) (n : ℕ) → (
 after_is_printable d narrative n dated = record {
   at = dated n (omega arith);
   states = length-states_of (state_at d narrative (suc n)) 0 d.positions;
-  violations = marks_dated d.unit is_broken d narrative (suc n) dated;
+  violations = marks_dated d.unit is_violated d narrative (suc n) dated;
   voids = marks_dated d.unit is_void d narrative (suc n) dated;
 }

@@ -5,7 +5,7 @@ use Rattle.std.specs.declared.option.Option.{Option}
 use Rattle.std.specs.Option.{is_some}
 use Rattle.std.specs.BTreeSet.{BTreeSet}
 use Rattle.sy_base.specs.Lines.{lines_of}
-use Rattle.sy_base.specs.Reader.{Reading}
+use Rattle.sy_base.specs.LineReaderState.{LineReaderState}
 use Rattle.sy_base.specs.LineReading.{Next, CutsLines}
 use Rattle.sy_base.specs.declared.lines.Line.{Line}
 use Rattle.sy_base.specs.declared.lines.LineFault.{LineFault}
@@ -16,9 +16,9 @@ use Rattle.sy_core.specs.declared.deed.Deed.{Deed}
 use Rattle.sy_core.specs.declared.happening.Happening.{Happening}
 use Rattle.sy_run.specs.Output.{reply, refused_line, reply_or_refuse}
 use Rattle.sy_run.specs.FirstPath.{entry}
-use Rattle.sy_run.specs.Replies.{IsTextOf, Replies, Answers, RepliesNext, stop_at}
-use Rattle.sy_run.specs.declared.files.Stop.{Stop}
-use Rattle.sy_run.specs.declared.files.Stop.TheVariants.{ReadFault, Refused, Memory}
+use Rattle.sy_run.specs.Machine.Replies.{IsTextOf, Replies, Answers, RepliesNext, stop_at}
+use Rattle.sy_run.specs.declared.stop.Stop.{Stop}
+use Rattle.sy_run.specs.declared.stop.Stop.TheVariants.{ReadFault, Refused, Memory}
 
 -- an object that told its bytes still does
 pub after_of : (left : Option (List ℕ)) → is_some left ≡ true → (after : List ℕ) × (left ≡ Some after)
@@ -47,7 +47,7 @@ module _ (deed : Deed) (noted : List Happening) where
   reply_many : (n : ℕ) (line : List ℕ) → 2 ^ 32 < n → reply deed noted n line ≡ refused_line noted n TooManyLines
   reply_many n line many = λ i. cond (many_test n many i) (refused_line noted n TooManyLines) (cond (nat_lt 4096 (length line)) (refused_line noted n TooLong) (reply_or_refuse deed noted n (entry deed.start line)))
 
-  module _ (points : BTreeSet ℤ) (old new : Reading) (rest after : List ℕ) (left : Option (List ℕ)) (tells : left ≡ Some after) (synced : IsTrue old.ended → rest ≡ []) where
+  module _ (points : BTreeSet ℤ) (old new : LineReaderState) (rest after : List ℕ) (left : Option (List ℕ)) (tells : left ≡ Some after) (synced : IsTrue old.ended → rest ≡ []) where
     -- the log goes no further
     pub fault_told : (lines : ℕ) (fault : LineFault) → lines ≡ old.given → Next old new (Some rest) left (Err fault) → CutsLines old new rest after (Err fault) → RepliesNext deed noted points old new rest left (Err (stop_at lines fault))
     fault_told lines F.ReadFault count next cuts =

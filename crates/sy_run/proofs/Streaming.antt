@@ -8,17 +8,18 @@ use Rattle.std.specs.declared.option.Option.{Option}
 use Rattle.std.specs.BTreeSet.{BTreeSet}
 use Rattle.std.specs.Io.KnownBytes.{Appends}
 use Rattle.sy_base.specs.Lines.{lines_of, whole_lines_of, onto_whole, has_newline}
-use Rattle.sy_base.specs.Reader.{Reading, new_reading}
-use Rattle.sy_base.specs.Writing.{AppendsPrefix}
+use Rattle.sy_base.specs.LineReaderState.{LineReaderState, new_line_reader}
+use Rattle.sy_base.specs.Writing.{AppendsPrefix, AppendsProperPrefix}
 use Rattle.sy_core.specs.declared.deed.Deed.{Deed}
-use Rattle.sy_run.specs.Holding.{Holds}
+use Rattle.sy_run.specs.Machine.Holding.{Holds}
 use Rattle.sy_run.specs.Output.{reply, output, is_refused}
-use Rattle.sy_run.specs.Program.{end_of, Ends, outcome_of}
+use Rattle.sy_run.specs.Outcomes.{end_of, monitored}
+use Rattle.sy_run.specs.Run.{Ends}
 use Rattle.sy_run.specs.RefusalText.{refusal_text}
-use Rattle.sy_run.specs.Replies.{Answers, Refuses, BreaksOff, RepliesNext}
-use Rattle.sy_run.specs.Stream.{SoFar, StreamEnds, StopsWith, WritesReply, AfterLine}
-use Rattle.sy_run.specs.declared.files.Stop.{Stop}
-use Rattle.sy_run.specs.declared.files.Stop.TheVariants as stop
+use Rattle.sy_run.specs.Machine.Replies.{Answers, Refuses, BreaksOff, RepliesNext}
+use Rattle.sy_run.specs.Machine.Stream.{SoFar, StreamEnds, StopsWith, WritesReply, AfterLine}
+use Rattle.sy_run.specs.declared.stop.Stop.{Stop}
+use Rattle.sy_run.specs.declared.stop.Stop.TheVariants as stop
 use Rattle.sy_run.specs.declared.status.Status.{Status}
 use Rattle.sy_run.specs.declared.status.Status.TheVariants.{Done, Found, Refused, Usage, ReadFault, WriteFault, Memory, Undecided}
 
@@ -27,11 +28,11 @@ pub prefix_of : (a b : Option (List ℕ)) (text more : List ℕ) → Appends a b
 prefix_of a b text more p =
     (length text, omega (arith, length-append text more), subst (Appends a b) (sym (take-append_seam text more)) p)
 
--- so is one of which a front was appended after another text
-pub prefix_after : (a b c : Option (List ℕ)) (before text more : List ℕ) → Appends a b before → AppendsPrefix b c text → AppendsPrefix a c (before ++ (text ++ more))
+-- so is one of which a proper front was appended after another text
+pub prefix_after : (a b c : Option (List ℕ)) (before text more : List ℕ) → Appends a b before → AppendsProperPrefix b c text → AppendsProperPrefix a c (before ++ (text ++ more))
 prefix_after a b c before text more p q =
     let front : take (length before + q.0) (before ++ (text ++ more)) ≡ before ++ take q.0 text =
-    take-append-add before (text ++ more) q.0 ∙ ap (λ l. before ++ l) (take-append-le q.0 text more q.1) in (
+    take-append-add before (text ++ more) q.0 ∙ ap (λ l. before ++ l) (take-append-le q.0 text more (omega (arith, q.1))) in (
       length before + q.0,
       omega (arith, length-append before (text ++ more), length-append text more, q.1),
       subst (Appends a c) (sym front) (Appends-trans a b c before (take q.0 text) p q.2),
@@ -59,7 +60,7 @@ same_rest : (xs ys : List ℕ) (left : Option (List ℕ)) → left ≡ Some xs �
 same_rest xs ys left p q = cc
 
 module _ (deed : Deed) (bytes : List ℕ) (first : Option (List ℕ)) where
-  module _ (points : BTreeSet ℤ) (reader : Reading) (left held : Option (List ℕ)) (so : SoFar deed points reader bytes left first held) where
+  module _ (points : BTreeSet ℤ) (reader : LineReaderState) (left held : Option (List ℕ)) (so : SoFar deed points reader bytes left first held) where
     -- what is to come after what was written
     all_text : output deed [] 1 (lines_of bytes) ≡ so.piece ++ output deed so.noted (reader.given + 1) (lines_of (reader.held ++ so.rest))
     all_text = ap (output deed [] 1) so.cut ∙ so.says (lines_of (reader.held ++ so.rest))
@@ -68,7 +69,7 @@ module _ (deed : Deed) (bytes : List ℕ) (first : Option (List ℕ)) where
     all_refused = ap (is_refused deed [] 1) so.cut ∙ so.refuses (lines_of (reader.held ++ so.rest))
 
     -- the input ended
-    pub finished : reader.held ++ so.rest ≡ [] → Ends first held (outcome_of (Ok deed) bytes) Done
+    pub finished : reader.held ++ so.rest ≡ [] → Ends first held (monitored (Ok deed) bytes) Done
     finished none =
         let nothing : output deed so.noted (reader.given + 1) (lines_of (reader.held ++ so.rest)) ≡ [] = ap (λ l. output deed so.noted (reader.given + 1) (lines_of l)) none in
         let text : output deed [] 1 (lines_of bytes) ≡ so.piece = all_text ∙ ap (λ l. so.piece ++ l) nothing ∙ append-nil so.piece in
@@ -94,13 +95,13 @@ module _ (deed : Deed) (bytes : List ℕ) (first : Option (List ℕ)) where
           ∙ ap (λ b. cond b true (is_refused deed (reply deed so.noted (reader.given + 1) refused.line).noted (reader.given + 1 + 1) refused.others)) refused.ends
 
       -- the refusal was written
-      pub refused_whole : (new : Option (List ℕ)) → Appends held new text → Ends first new (outcome_of (Ok deed) bytes) Refused
+      pub refused_whole : (new : Option (List ℕ)) → Appends held new text → Ends first new (monitored (Ok deed) bytes) Refused
       refused_whole new p = (subst (Appends first new) (sym refused_text) (Appends-trans first held new so.piece text so.appended p), ap end_of refused_end)
 
       -- a front of it was written
-      pub refused_part : (new : Option (List ℕ)) → AppendsPrefix held new text → AppendsPrefix first new (output deed [] 1 (lines_of bytes))
+      pub refused_part : (new : Option (List ℕ)) → AppendsProperPrefix held new text → AppendsProperPrefix first new (output deed [] 1 (lines_of bytes))
       refused_part new p =
-          subst (AppendsPrefix first new) (sym (refused_text ∙ ap (λ l. so.piece ++ l) (sym (append-nil text)))) (prefix_after first held new so.piece text [] so.appended p)
+          subst (AppendsProperPrefix first new) (sym (refused_text ∙ ap (λ l. so.piece ++ l) (sym (append-nil text)))) (prefix_after first held new so.piece text [] so.appended p)
 
     -- a read failed after all that was read was answered
     pub broke_off : (left' : Option (List ℕ)) → BreaksOff reader so.rest left' → (new : Option (List ℕ)) → Appends held new [] → (taken rest : List ℕ) → left' ≡ Some rest
@@ -114,7 +115,7 @@ module _ (deed : Deed) (bytes : List ℕ) (first : Option (List ℕ)) where
         let text : output deed [] 1 (whole_lines_of taken) ≡ so.piece ++ [] = ap (output deed [] 1) lines ∙ so.says [] in
         subst (Appends first new) (sym text) (Appends-trans first held new so.piece [] so.appended p)
 
-    module _ (points' : BTreeSet ℤ) (reader' : Reading) (left' : Option (List ℕ)) (text : List ℕ) (a : Answers deed so.noted points' reader reader' so.rest left' text) where
+    module _ (points' : BTreeSet ℤ) (reader' : LineReaderState) (left' : Option (List ℕ)) (text : List ℕ) (a : Answers deed so.noted points' reader reader' so.rest left' text) where
       -- what the line adds, and what comes after it
       line_text : (more : List (List ℕ)) → output deed [] 1 ((so.lines ++ a.line ∷ []) ++ more)
           ≡ so.piece ++ (text ++ output deed (reply deed so.noted (reader.given + 1) a.line).noted (reader.given + 1 + 1) more)
@@ -124,12 +125,12 @@ module _ (deed : Deed) (bytes : List ℕ) (first : Option (List ℕ)) where
           ∙ ap (λ t. so.piece ++ (t ++ output deed (reply deed so.noted (reader.given + 1) a.line).noted (reader.given + 1 + 1) more)) (sym a.reply.same)
 
       -- a front of what the line adds was written
-      pub answered_part : (new : Option (List ℕ)) → AppendsPrefix held new text → AppendsPrefix first new (output deed [] 1 (lines_of bytes))
+      pub answered_part : (new : Option (List ℕ)) → AppendsProperPrefix held new text → AppendsProperPrefix first new (output deed [] 1 (lines_of bytes))
       answered_part new p =
           let after = output deed (reply deed so.noted (reader.given + 1) a.line).noted (reader.given + 1 + 1) (lines_of (reader'.held ++ a.after)) in
           let all : lines_of bytes ≡ (so.lines ++ a.line ∷ []) ++ lines_of (reader'.held ++ a.after) =
           so.cut ∙ ap (λ l. so.lines ++ l) a.cut ∙ sym (append_assoc so.lines (a.line ∷ []) (lines_of (reader'.held ++ a.after))) in
-          subst (AppendsPrefix first new) (sym (ap (output deed [] 1) all ∙ line_text (lines_of (reader'.held ++ a.after))))
+          subst (AppendsProperPrefix first new) (sym (ap (output deed [] 1) all ∙ line_text (lines_of (reader'.held ++ a.after))))
           (prefix_after first held new so.piece text after so.appended p)
 
       -- it was written, and the stream goes on
@@ -176,7 +177,7 @@ module _ (deed : Deed) (bytes : List ℕ) (first : Option (List ℕ)) where
       answered (Some Undecided) count new p = absurd p
 
     -- the stream goes no further
-    pub stopped : (points' : BTreeSet ℤ) (reader' : Reading) (left' : Option (List ℕ)) (why : Stop) (status : Status) (new : Option (List ℕ))
+    pub stopped : (points' : BTreeSet ℤ) (reader' : LineReaderState) (left' : Option (List ℕ)) (why : Stop) (status : Status) (new : Option (List ℕ))
         → RepliesNext deed so.noted points' reader reader' so.rest left' (Err why) → StopsWith held new why status → StreamEnds deed bytes left' first new status
     stopped points' reader' left' (stop.Refused r) Refused new told p = record { ends = refused_whole (refusal_text r) told new p; all_read = λ taken rest t c. tt }
     stopped points' reader' left' (stop.Refused r) WriteFault new told p = record { ends = refused_part (refusal_text r) told new p; all_read = λ taken rest t c. tt }
@@ -204,7 +205,7 @@ module _ (deed : Deed) (bytes : List ℕ) (first : Option (List ℕ)) where
     stopped points' reader' left' stop.Memory Undecided new told p = absurd p
 
 -- nothing was read yet
-pub begins : (deed : Deed) (points : BTreeSet ℤ) (reader : Reading) (bytes : List ℕ) (left held : Option (List ℕ)) → reader ≡ new_reading → left ≡ Some bytes → Holds points []
+pub begins : (deed : Deed) (points : BTreeSet ℤ) (reader : LineReaderState) (bytes : List ℕ) (left held : Option (List ℕ)) → reader ≡ new_line_reader → left ≡ Some bytes → Holds points []
     → SoFar deed points reader bytes left held held
 begins deed points reader bytes left held new tells holds =
     let none : reader.held ++ bytes ≡ bytes = ap (λ r. r.held ++ bytes) new in record {
@@ -217,8 +218,8 @@ begins deed points reader bytes left held new tells holds =
       cut = ap lines_of (sym none);
       piece = [];
       appended = Appends-nil held;
-      says = λ more. ap (λ (r : Reading). output deed [] (r.given + 1) more) (sym new);
-      refuses = λ more. ap (λ (r : Reading). is_refused deed [] (r.given + 1) more) (sym new);
+      says = λ more. ap (λ (r : LineReaderState). output deed [] (r.given + 1) more) (sym new);
+      refuses = λ more. ap (λ (r : LineReaderState). is_refused deed [] (r.given + 1) more) (sym new);
       front = [];
       split = λ going. sym none;
       whole = λ going more. refl;

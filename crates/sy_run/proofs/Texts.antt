@@ -16,10 +16,10 @@ use Rattle.sy_lex.specs.Lexemes.{Lexeme, lexemes_of}
 use Rattle.sy_parse.specs.Faults as faults
 use Rattle.sy_parse.specs.Faults.{IsSyntaxFault}
 use Rattle.sy_run.specs.FirstPath.{due_date, start_date}
-use Rattle.sy_run.specs.Stopping.{IsToldAs, stop_of}
+use Rattle.sy_run.specs.Machine.Stopping.{IsToldAs, stop_of}
 use Rattle.sy_run.specs.Texts.{IsTree, no_tokens, no_tree, IsSpecIn, IsBindingIn, IsDeedIn, IsDeedDue, date_or_refusal, date_of_tree, deed_due}
-use Rattle.sy_run.specs.declared.files.Stop.{Stop}
-use Rattle.sy_run.specs.declared.files.Stop.TheVariants as stop
+use Rattle.sy_run.specs.declared.stop.Stop.{Stop}
+use Rattle.sy_run.specs.declared.stop.Stop.TheVariants as stop
 
 module _ {A : Type 0} (file : FileKind) (spells : A → List Lexeme → Type 0) (bytes : List ℕ) where
   -- no tokens

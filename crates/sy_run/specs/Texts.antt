@@ -1,6 +1,5 @@
 -- What the texts of files give.
 use Rattle.std.specs.Prelude.{◌≡◌, ℕ, nat_lt, if◌then◌else◌, List, length, Option, None, Some, Result, Ok, Err, ℤ}
-use Rattle.sy_base.specs.declared.read.TheConstants.{FILE_LIMIT}
 use Rattle.sy_base.specs.declared.refusal.FileKind.{FileKind}
 use Rattle.sy_base.specs.declared.refusal.FileKind.TheVariants.{Spec, Bind}
 use Rattle.sy_base.specs.declared.refusal.FaultName.TheVariants.{NotYet, TooBig}
@@ -16,14 +15,14 @@ use Rattle.sy_tree.specs.Spelling.{SpellsSpec, SpellsBinding}
 use Rattle.sy_parse.specs.Faults.{IsSyntaxFault}
 use Rattle.sy_run.specs.FirstPath.{due_date, start_date, deed}
 use Rattle.sy_run.specs.RefusalText.{whole}
-use Rattle.sy_run.specs.declared.files.Stop.{Stop}
-use Rattle.sy_run.specs.declared.files.Stop.TheVariants as stop
+use Rattle.sy_run.specs.declared.stop.Stop.{Stop}
+use Rattle.sy_run.specs.declared.stop.Stop.TheVariants as stop
 
 -- the bytes of a file: a missing one can't be read, and one past the limit is too big
 abbrev pub bytes_in : FileKind → Option (List ℕ) → Result (List ℕ) Stop
 bytes_in file None = Err stop.ReadFault
 bytes_in file (Some bytes) =
-    if nat_lt FILE_LIMIT (length bytes) then Err (stop.Refused (whole file TooBig)) else Ok bytes
+    if nat_lt 1048576 (length bytes) then Err (stop.Refused (whole file TooBig)) else Ok bytes
 
 -- the bytes give this tree, by the rule for it, or this refusal: LexFault where they have no list of tokens, and
 -- SyntaxFault where their tokens spell no tree

@@ -5,10 +5,10 @@ ghost use Rattle.sy_core.specs.declared.deed.Deed.{Deed as ADeed};
 ghost use Rattle.sy_core.specs.declared.happening.Happening.{Happening};
 ghost use Rattle.sy_core.specs.Chronicle.{moment_at};
 ghost use Rattle.sy_core.specs.Soundness.{IsSound};
-ghost use Rattle.sy_core.specs.Tables.{is_broken, marks_at};
-ghost use Rattle.sy_axioms.specs.Standing.{StandsFor, IsMadeFor, next_point};
-ghost use Rattle.sy_run.specs.Course.{HasCome};
-ghost use Rattle.sy_run.specs.Holding.{Holds};
+ghost use Rattle.sy_core.specs.Tables.{is_violated, marks_at};
+ghost use Rattle.sy_axioms.specs.Standing.{StandsFor, HasDatedPoints, next_point};
+ghost use Rattle.sy_run.specs.Machine.Course.{HasCome};
+ghost use Rattle.sy_run.specs.Machine.Holding.{Holds};
 
 use crate::entries::Entries;
 use std::alloc::Global;
@@ -31,7 +31,7 @@ fn add_if_broken(
     marks: &mut List<Mark>,
 ) -> Result<(), Memory>
     ensures { (deed : ADeed) (narrative : List Happening) (n : ℕ) → StandsFor plain.now deed narrative (suc n)
-        → OnOk result (marks.new ≡ marks.old ++ (if is_broken (moment_at deed narrative n) number then record { point = point; position = number } ∷ [] else [])) }
+        → OnOk result (marks.new ≡ marks.old ++ (if is_violated (moment_at deed narrative n) number then record { point = point; position = number } ∷ [] else [])) }
 {
     if plain.happened(Kind::Violated, Target::Position(number)) {
         marks.push(Mark {
@@ -52,7 +52,7 @@ fn add_broken(
     requires { length deed.now.positions < 2 ^ 32 }
     ensures { (narrative : List Happening) (n : ℕ) → StandsFor plain.now deed.now narrative (suc n)
         → point ≡ deed.now.start +ℤ pos n
-        → OnOk result (marks.new ≡ marks.old ++ marks_at is_broken (moment_at deed.now narrative n) 0 deed.now.positions) }
+        → OnOk result (marks.new ≡ marks.old ++ marks_at is_violated (moment_at deed.now narrative n) 0 deed.now.positions) }
 {
     let mut number = 0;
     for _position in deed.positions.items() {
@@ -71,12 +71,12 @@ fn go_on(
     plain: &mut Plain,
 ) -> Result<(), Memory>
     requires sound { IsSound deed.now }
-    requires made { IsMadeFor plain.old deed.now }
+    requires made { HasDatedPoints plain.old deed.now }
     requires next { next_point plain.old ≡ point }
     requires dated { IsDated deed.now.unit point }
     ensures next { (noted : List Happening) (n : ℕ) → Holds entries.now.points noted → StandsFor plain.old deed.now noted n
         → IfOk result (λ _. StandsFor plain.new deed.now noted (suc n)) }
-    ensures made { IsMadeFor plain.new deed.now }
+    ensures made { HasDatedPoints plain.new deed.now }
     ensures point { OnOk result (next_point plain.new ≡ point +ℤ pos 1) }
 {
     let at = entries.at(alloc, point)?;
@@ -88,7 +88,7 @@ impl Course {
     fn new(alloc: Global, deed: &Deed) -> Result<Course, Memory>
         requires { IsSound deed.now }
         ensures start { (noted : List Happening) → IfOk result (λ course. HasCome course deed.now noted 0) }
-        ensures made { IfOk result (λ course. IsMadeFor course.plain deed.now) }
+        ensures made { IfOk result (λ course. HasDatedPoints course.plain deed.now) }
         ensures point { IfOk result (λ course. next_point course.plain ≡ deed.now.start) }
     {
         Ok(Course {
@@ -100,11 +100,11 @@ impl Course {
     // One more point is evaluated.
     fn step(&mut self, alloc: Global, deed: &Deed, entries: &Entries) -> Result<(), Memory>
         requires sound { IsSound deed.now }
-        requires made { IsMadeFor self.old.plain deed.now }
+        requires made { HasDatedPoints self.old.plain deed.now }
         requires dated { IsDated deed.now.unit (next_point self.old.plain) }
         ensures next { (noted : List Happening) (n : ℕ) → Holds entries.now.points noted → HasCome self.old deed.now noted n
             → IfOk result (λ _. HasCome self.new deed.now noted (suc n)) }
-        ensures made { IsMadeFor self.new.plain deed.now }
+        ensures made { HasDatedPoints self.new.plain deed.now }
         ensures point { OnOk result (next_point self.new.plain ≡ next_point self.old.plain +ℤ pos 1) }
     {
         let point = self.plain.now();

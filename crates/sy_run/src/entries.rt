@@ -2,7 +2,7 @@
 ghost use Rattle.std.specs.Prelude.{◌≡◌, ◌⊎◌, List, [], ◌∷◌, ◌++◌, IfOk, OnOk};
 ghost use Rattle.sy_core.specs.declared.happening.Happening.{Happening as Noted};
 ghost use Rattle.sy_run.specs.Output.{payment};
-ghost use Rattle.sy_run.specs.Holding.{Holds, payments_at};
+ghost use Rattle.sy_run.specs.Machine.Holding.{Holds, payments_at};
 
 use std::alloc::Global;
 use std::collections::BTreeSet;

@@ -8,49 +8,18 @@ ghost use Rattle.sy_base.specs.declared.time.TimeUnit.TheVariants.{Day};
 ghost use Rattle.sy_tree.specs.Spelling.{SpellsBinding, SpellsSpec};
 ghost use Rattle.sy_run.specs.FirstPath as first;
 ghost use Rattle.sy_run.specs.FirstPath.{IsFirstDeed};
-ghost use Rattle.sy_run.specs.Stopping.{IsToldAs, NoReadStop, is_read_stop, stop_of};
+ghost use Rattle.sy_run.specs.Machine.Stopping.{IsToldAs, NoReadStop, is_read_stop};
 ghost use Rattle.sy_run.specs.Texts.{IsBindingIn, IsDeedIn, IsSpecIn, IsTree, bytes_in, date_or_refusal};
-ghost use Rattle.sy_run.specs.declared.files.Stop.TheVariants.{Memory as OutOfMemory};
 
 use crate::first_path::{deed, due_date, start_date};
 use crate::refusal::whole;
+use crate::stop::Stop;
 use std::alloc::Global;
-use sy_base::{
-    FaultName, FileFault, FileKind, Files, Memory, Point, Refusal, Refused, Text, read_file,
-};
+use sy_base::{FaultName, FileFault, FileKind, Files, Point, Text, read_file};
 use sy_core::Deed;
 use sy_lex::tokens;
 use sy_parse::{binding, spec};
 use sy_tree::{BindTree, SpecTree};
-
-/// Why a run goes no further.
-#[derive(Debug, Drop)]
-pub(crate) enum Stop {
-    /// A file could not be read.
-    ReadFault,
-    /// A text is refused.
-    Refused(Refusal),
-    Memory,
-}
-
-impl From<Refused> for Stop {
-    ghost from_gives = { λ why stop. stop ≡ stop_of why };
-
-    fn from(why: Refused) -> Stop {
-        match why {
-            Refused::Refusal(refusal) => Stop::Refused(refusal),
-            Refused::Memory => Stop::Memory,
-        }
-    }
-}
-
-impl From<Memory> for Stop {
-    ghost from_gives = { λ _ e. e ≡ OutOfMemory };
-
-    fn from(_: Memory) -> Stop {
-        Stop::Memory
-    }
-}
 
 // The bytes of a file.
 fn read_text<F: Files>(

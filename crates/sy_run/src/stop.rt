@@ -1,14 +1,44 @@
 //! How a run ends that goes no further.
 ghost use Rattle.std.specs.Prelude.{◌≡◌};
 ghost use Rattle.std.specs.Option.{is_some};
-ghost use Rattle.sy_run.specs.Stream.{StopsWith, WriteCaused};
-ghost use Rattle.sy_run.specs.declared.files.Stop.TheVariants as stop;
+ghost use Rattle.sy_run.specs.Machine.Stream.{StopsWith, WriteCaused};
+ghost use Rattle.sy_run.specs.Machine.Stopping.{stop_of};
+ghost use Rattle.sy_run.specs.declared.stop.Stop.TheVariants as stop;
+ghost use Rattle.sy_run.specs.declared.stop.Stop.TheVariants.{Memory as OutOfMemory};
 
-use crate::files::Stop;
 use crate::refusal::refusal_text;
 use crate::status::Status;
 use std::alloc::Global;
-use sy_base::{Refusal, Sink, write_all};
+use sy_base::{Memory, Refusal, Refused, Sink, write_all};
+
+/// Why a run goes no further.
+#[derive(Debug, Drop)]
+pub(crate) enum Stop {
+    /// A file could not be read.
+    ReadFault,
+    /// A text is refused.
+    Refused(Refusal),
+    Memory,
+}
+
+impl From<Refused> for Stop {
+    ghost from_gives = { λ why stop. stop ≡ stop_of why };
+
+    fn from(why: Refused) -> Stop {
+        match why {
+            Refused::Refusal(refusal) => Stop::Refused(refusal),
+            Refused::Memory => Stop::Memory,
+        }
+    }
+}
+
+impl From<Memory> for Stop {
+    ghost from_gives = { λ _ e. e ≡ OutOfMemory };
+
+    fn from(_: Memory) -> Stop {
+        Stop::Memory
+    }
+}
 
 // Writes the line of a refusal.
 fn refuse<W: Sink>(alloc: Global, refusal: &Refusal, out: &mut W) -> Status

@@ -1,11 +1,10 @@
 //! The lines of an input, answered one after the other.
 ghost use Rattle.std.specs.Prelude.{◌≡◌, ◌+◌, List, [], ℕ, IfNone, IfSome, Some};
 ghost use Rattle.std.specs.declared.option.Option.{Option};
-ghost use Rattle.sy_base.specs.Reader.{new_reading};
+ghost use Rattle.sy_base.specs.LineReaderState.{new_line_reader};
 ghost use Rattle.sy_run.specs.FirstPath.{IsFirstDeed};
-ghost use Rattle.sy_run.specs.Holding.{Holds};
-ghost use Rattle.sy_run.specs.Program.{IsReadingStatus};
-ghost use Rattle.sy_run.specs.Stream.{AfterLine, CausedIf, IsReady, SoFar, StreamCaused, StreamEnds, WritesReply};
+ghost use Rattle.sy_run.specs.Machine.Holding.{Holds};
+ghost use Rattle.sy_run.specs.Machine.Stream.{AfterLine, CausedIf, IsReadingStatus, IsReady, SoFar, StreamCaused, StreamEnds, WritesReply};
 
 use crate::log::{Log, reply_next};
 use crate::status::Status;
@@ -61,7 +60,7 @@ pub(crate) fn stream<S: Source, W: Sink>(
     out: &mut W,
 ) -> Status
     requires first { IsFirstDeed deed.now }
-    requires new { reader.old ≡ new_reading }
+    requires new { reader.old ≡ new_line_reader }
     requires none { Holds log.old.entries.points [] }
     requires counted { log.old.lines ≡ 0 }
     ensures told { (bytes : List ℕ) → S.left input.old ≡ Some bytes

@@ -1,8 +1,14 @@
-use Rattle.sy_run.specs.Program.{IsCompiled}
-use Rattle.sy_run.proofs.Completing.{completed_as}
+use Rattle.std.proofs.Common.{refl}
+use Rattle.sy_run.proofs.Runs.{compile_stops, compiled_run, stopped_run}
+use Rattle.sy_run.specs.Commands.{Compile}
 use Rattle.sy_run.proofs.compile.compile.Goals as goal
 
-pub returns-clause-complete : goal.returns-clause-complete
-returns-clause-complete g c = λ s read spec none.
-    completed_as (g.W.Sink.held c.args.out.now) (g.W.Sink.held c.read_and_write.new.out) (IsCompiled s) _ _ read read _ _ c.read_and_write.result
-    (c.read_and_write.ensures.told s spec) (c.read_and_write.ensures.cause read) none
+pub returns-in-Ok : goal.returns-in-Ok
+returns-in-Ok g c = λ left faults.
+    compiled_run c.args.spec.now _ _ c.in-Ok.tree c.write_canonical.result c.in-Ok.ensures.told c.write_canonical.ensures.ends c.write_canonical.ensures.status c.write_canonical.ensures.cause
+    c.in-Ok.ensures.cause (record { left = refl; faults = refl })
+
+pub returns-in-Err : goal.returns-in-Err
+returns-in-Err g c = λ left faults.
+    stopped_run (Compile c.args.spec.now) _ _ (record { left = refl; faults = refl }) c.in-Err.why c.end.result (compile_stops c.args.spec.now _ c.in-Err.why c.in-Err.ensures.told) c.end.ensures.ends
+    c.in-Err.ensures.cause c.end.ensures.cause

@@ -7,7 +7,7 @@ use Rattle.sy_base.specs.declared.time.TimeUnit.TheVariants.{Day}
 use Rattle.sy_core.specs.declared.deed.Deed.{Deed}
 use Rattle.sy_run.specs.FirstPath.{deed, due_date, start_date}
 use Rattle.sy_run.specs.Texts.{IsSpecIn, IsBindingIn, IsDeedIn, date_or_refusal, deed_due}
-use Rattle.sy_run.specs.declared.files.Stop.{Stop}
+use Rattle.sy_run.specs.declared.stop.Stop.{Stop}
 use Rattle.sy_run.proofs.Fitting.{fits}
 use Rattle.sy_run.proofs.Texts.{as_told, found_dated, told_too, stopped_by_spec, stopped_by_due, with_binding}
 use Rattle.sy_run.proofs.files.read_deed.Goals as goal

@@ -1,6 +1,6 @@
 use Rattle.std.proofs.Common.{sym, subst}
-use Rattle.sy_run.specs.Replies.{Answers}
-use Rattle.sy_run.specs.Stream.{CausedIf, WritesReply}
+use Rattle.sy_run.specs.Machine.Replies.{Answers}
+use Rattle.sy_run.specs.Machine.Stream.{CausedIf, WritesReply}
 use Rattle.sy_run.proofs.Streaming.{answered, stopped}
 use Rattle.sy_run.proofs.stream.one_line.Goals as goal
 

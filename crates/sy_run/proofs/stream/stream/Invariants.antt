@@ -1,5 +1,5 @@
 use Rattle.std.proofs.Common.{◌≡◌, ◌+◌, ◌-◌, ◌^◌, List, ℕ, Some}
-use Rattle.sy_run.specs.Stream.{IsReady, SoFar}
+use Rattle.sy_run.specs.Machine.Stream.{IsReady, SoFar}
 use Rattle.sy_run.proofs.stream.stream.Given as goal
 
 abbrev pub invariant-lines : goal.invariant-lines

@@ -2,7 +2,7 @@ use Rattle.std.proofs.Common.{◌≡◌, ◌+◌, ℕ, suc, ◌+ℤ◌, ◌-ℤ�
 use Rattle.std.proofs.lemmas.Int.{to_z-of_z}
 use Rattle.sy_core.specs.Chronicle.{chronicle, moment_at}
 use Rattle.sy_core.specs.Propositions.{verdict_at}
-use Rattle.sy_run.specs.Course.{HasCome}
+use Rattle.sy_run.specs.Machine.Course.{HasCome}
 use Rattle.sy_run.proofs.FirstDeeds.{first_is_sound, first_has_no_posts, no_voids}
 use Rattle.sy_run.proofs.Printable.{reached}
 use Rattle.sy_run.proofs.table.table_after.Goals as goal

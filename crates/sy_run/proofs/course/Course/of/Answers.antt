@@ -1,7 +1,7 @@
 use Rattle.std.proofs.Common.{◌≡◌, sym, ◌∙◌, subst, arith, add-one}
 use Rattle.std.proofs.lemmas.Int.{ints}
 use Rattle.sy_base.specs.Points.{IsDated}
-use Rattle.sy_run.specs.Course.{HasCome}
+use Rattle.sy_run.specs.Machine.Course.{HasCome}
 use Rattle.sy_run.proofs.course.Course.of.Goals as goal
 
 pub step-requires-clause-dated : goal.step-requires-clause-dated

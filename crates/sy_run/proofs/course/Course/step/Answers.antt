@@ -1,9 +1,9 @@
 use Rattle.std.proofs.Common.{◌≡◌, ◌++◌, suc, sym, ◌∙◌, ap, subst}
 use Rattle.sy_base.specs.Points.{IsDated}
 use Rattle.sy_core.specs.Chronicle.{chronicle, moment_at}
-use Rattle.sy_core.specs.Tables.{marks_at, is_broken}
+use Rattle.sy_core.specs.Tables.{marks_at, is_violated}
 use Rattle.sy_axioms.proofs.Dates.{dated_is_passed}
-use Rattle.sy_run.specs.Course.{HasCome}
+use Rattle.sy_run.specs.Machine.Course.{HasCome}
 use Rattle.sy_run.proofs.Answering.{if_ok}
 use Rattle.sy_run.proofs.Marking.{one_moment}
 use Rattle.sy_run.proofs.course.Course.step.Goals as goal
@@ -16,12 +16,12 @@ returns-clause-next c = λ noted n holds come.
     let dated : IsDated deed.unit c.now-point.result = subst (IsDated deed.unit) (sym c.now-point.ensures.point) c.requires.dated in
     let at = dated_is_passed deed.unit c.now-point.result dated ∙ c.now-point.ensures.stands deed noted n come.stands in
     if_ok c.add_broken.result
-    (λ (x : Unit {0}). c.add_broken.new.marks ≡ before.violations ++ marks_at is_broken (moment_at deed noted n) 0 deed.positions)
+    (λ (x : Unit {0}). c.add_broken.new.marks ≡ before.violations ++ marks_at is_violated (moment_at deed noted n) 0 deed.positions)
     (λ x. HasCome (record { plain = c.go_on.new.plain; violations = c.add_broken.new.marks }) deed noted (suc n))
     (λ x more. record {
       stands = stands;
       violations =
-          more ∙ ap (λ l. l ++ marks_at is_broken (moment_at deed noted n) 0 deed.positions) come.violations
-          ∙ sym (one_moment is_broken deed.positions (chronicle deed noted n) (moment_at deed noted n));
+          more ∙ ap (λ l. l ++ marks_at is_violated (moment_at deed noted n) 0 deed.positions) come.violations
+          ∙ sym (one_moment is_violated deed.positions (chronicle deed noted n) (moment_at deed noted n));
     })
     (c.add_broken.ensures noted n stands at)

@@ -1,26 +1,28 @@
 -- How a run goes from line to line, where its input is told.
-use Rattle.std.specs.Prelude.{◌≡◌, ℕ, ℤ, ◌+◌, ◌^◌, ◌≤◌, false, List, [], ◌++◌, Option, None, Some, Ok, IsTrue}
+use Rattle.std.specs.Prelude.{◌≡◌, ℕ, ℤ, ◌+◌, ◌^◌, ◌≤◌, false, List, [], ◌++◌, Option, None, Some, Ok, IsTrue, ⊤, Result}
 use Rattle.std.specs.BTreeSet.{BTreeSet}
 use Rattle.std.specs.Io.KnownBytes.{Appends}
 use Rattle.sy_base.specs.Lines.{lines_of, whole_lines_of}
 use Rattle.sy_base.specs.Outside.{RoseSince}
-use Rattle.sy_base.specs.Reader.{Reading}
-use Rattle.sy_base.specs.Writing.{AppendsPrefix}
+use Rattle.sy_base.specs.LineReaderState.{LineReaderState}
+use Rattle.sy_base.specs.Writing.{AppendsProperPrefix}
+use Rattle.sy_base.specs.declared.refusal.Refusal.{Refusal}
 use Rattle.sy_core.specs.declared.deed.Deed.{Deed}
 use Rattle.sy_core.specs.declared.happening.Happening.{Happening}
-use Rattle.sy_run.specs.Holding.{Holds}
+use Rattle.sy_run.specs.Machine.Holding.{Holds}
 use Rattle.sy_run.specs.Output.{output, is_refused}
-use Rattle.sy_run.specs.Program.{Ends, outcome_of, WroteAllRead}
+use Rattle.sy_run.specs.Outcomes.{monitored, asked_by_lines}
+use Rattle.sy_run.specs.Run.{Ends}
 use Rattle.sy_run.specs.RefusalText.{refusal_text}
-use Rattle.sy_run.specs.declared.files.Stop.{Stop}
-use Rattle.sy_run.specs.declared.files.Stop.TheVariants as stop
+use Rattle.sy_run.specs.declared.stop.Stop.{Stop}
+use Rattle.sy_run.specs.declared.stop.Stop.TheVariants as stop
 use Rattle.sy_run.specs.declared.status.Status.{Status}
-use Rattle.sy_run.specs.declared.status.Status.TheVariants.{Done, Refused, ReadFault, WriteFault, Memory}
+use Rattle.sy_run.specs.declared.status.Status.TheVariants.{Done, Found, Refused, Usage, ReadFault, WriteFault, Memory, Undecided}
 
 -- how a run ends that goes no further: a refusal is written, and after a failed read and on want of memory nothing more
 abbrev pub StopsWith : Option (List ℕ) → Option (List ℕ) → Stop → Status → Type 0
 StopsWith old new (stop.Refused refusal) Refused = Appends old new (refusal_text refusal)
-StopsWith old new (stop.Refused refusal) WriteFault = AppendsPrefix old new (refusal_text refusal)
+StopsWith old new (stop.Refused refusal) WriteFault = AppendsProperPrefix old new (refusal_text refusal)
 StopsWith old new (stop.Refused refusal) Memory = Appends old new []
 StopsWith old new (stop.Refused refusal) _ = ⊥
 StopsWith old new stop.ReadFault ReadFault = Appends old new []
@@ -33,21 +35,34 @@ abbrev pub WriteCaused : ℕ → ℕ → Status → Type 0
 WriteCaused write_old write_new WriteFault = RoseSince write_old write_new
 WriteCaused write_old write_new status = write_new ≡ write_old
 
+-- the statuses of a command that reads its files
+abbrev pub IsReadingStatus : Status → Type 0
+IsReadingStatus Found = ⊥
+IsReadingStatus Usage = ⊥
+IsReadingStatus Undecided = ⊥
+IsReadingStatus status = ⊤
+
+-- the statuses where the usage line is written
+abbrev pub IsUsageStatus : Status → Type 0
+IsUsageStatus Usage = ⊤
+IsUsageStatus WriteFault = ⊤
+IsUsageStatus status = ⊥
+
 -- the statuses of a text that is made and written
 abbrev pub IsWritingStatus : Status → Type 0
-IsWritingStatus Done = Unit {0}
-IsWritingStatus WriteFault = Unit {0}
-IsWritingStatus Memory = Unit {0}
+IsWritingStatus Done = ⊤
+IsWritingStatus WriteFault = ⊤
+IsWritingStatus Memory = ⊤
 IsWritingStatus status = ⊥
 
 -- what is answered to a line was written, or on a fault a front of it
 abbrev pub WritesReply : Option (List ℕ) → Option (List ℕ) → List ℕ → Option Status → Type 0
 WritesReply old new text None = Appends old new text
-WritesReply old new text (Some WriteFault) = AppendsPrefix old new text
+WritesReply old new text (Some WriteFault) = AppendsProperPrefix old new text
 WritesReply old new text (Some status) = ⊥
 
 -- what was written so far and what is to come are what all the bytes give
-pub record SoFar (deed : Deed) (points : BTreeSet ℤ) (reader : Reading) (bytes : List ℕ) (left first held : Option (List ℕ)) : Type 0 where
+pub record SoFar (deed : Deed) (points : BTreeSet ℤ) (reader : LineReaderState) (bytes : List ℕ) (left first held : Option (List ℕ)) : Type 0 where
   pub rest : List ℕ
   pub tells : left ≡ Some rest
   pub synced : IsTrue reader.ended → rest ≡ []
@@ -67,13 +82,18 @@ pub record SoFar (deed : Deed) (points : BTreeSet ℤ) (reader : Reading) (bytes
   pub split : reader.ended ≡ false → bytes ≡ front ++ (reader.held ++ rest)
   pub whole : reader.ended ≡ false → (more : List ℕ) → whole_lines_of (front ++ more) ≡ lines ++ whole_lines_of more
 
+-- where a read failed, all that the whole lines of the bytes that were taken ask for was written
+abbrev pub WroteAllRead : Option (List ℕ) → Option (List ℕ) → Result Deed Stop → List ℕ → Status → Type 0
+WroteAllRead old new files taken ReadFault = Appends old new (asked_by_lines files taken)
+WroteAllRead old new files taken status = ⊤
+
 -- how a stream ends whose bytes are told: as its outcome says, and after a failed read all that was read was answered
 pub record StreamEnds (deed : Deed) (bytes : List ℕ) (left first held : Option (List ℕ)) (status : Status) : Type 0 where
-  pub ends : Ends first held (outcome_of (Ok deed) bytes) status
+  pub ends : Ends first held (monitored (Ok deed) bytes) status
   pub all_read : (taken rest : List ℕ) → left ≡ Some rest → bytes ≡ taken ++ rest → WroteAllRead first held (Ok deed) taken status
 
 -- a stream goes on, or ends
-abbrev pub AfterLine : Deed → BTreeSet ℤ → Reading → List ℕ → Option (List ℕ) → Option (List ℕ) → Option (List ℕ) → Option Status → Type 0
+abbrev pub AfterLine : Deed → BTreeSet ℤ → LineReaderState → List ℕ → Option (List ℕ) → Option (List ℕ) → Option (List ℕ) → Option Status → Type 0
 AfterLine deed points reader bytes left first held None = SoFar deed points reader bytes left first held
 AfterLine deed points reader bytes left first held (Some status) = StreamEnds deed bytes left first held status
 
@@ -89,7 +109,15 @@ CausedIf read_old read_new write_old write_new None = (read_new ≡ read_old) ×
 CausedIf read_old read_new write_old write_new (Some status) = StreamCaused read_old read_new write_old write_new status
 
 -- the reader goes on after a line, and the count of lines is its
-pub record IsReady (reader : Reading) (lines : ℕ) : Type 0 where
+pub record IsReady (reader : LineReaderState) (lines : ℕ) : Type 0 where
   pub live : IsTrue reader.live
   pub counted : lines ≡ reader.given
   pub few : lines ≤ 2 ^ 32
+
+-- the same, case by case
+pub data HowStopped (old new : Option (List ℕ)) : Stop → Status → Type 0 where
+  refused : (refusal : Refusal) → Appends old new (refusal_text refusal) → HowStopped old new (stop.Refused refusal) Refused
+  half_refused : (refusal : Refusal) → AppendsProperPrefix old new (refusal_text refusal) → HowStopped old new (stop.Refused refusal) WriteFault
+  not_refused : (refusal : Refusal) → Appends old new [] → HowStopped old new (stop.Refused refusal) Memory
+  not_read : Appends old new [] → HowStopped old new stop.ReadFault ReadFault
+  no_memory : Appends old new [] → HowStopped old new stop.Memory Memory

@@ -2,18 +2,18 @@
 use Rattle.std.specs.Prelude.{◌≡◌, ℕ, ℤ, ⊤, true, false, List, [], ◌∷◌, ◌++◌, ◌+◌, ◌^◌, ◌≤◌, Option, None, Some, Result, Ok, Err, IsTrue}
 use Rattle.std.specs.BTreeSet.{BTreeSet}
 use Rattle.sy_base.specs.Lines.{lines_of, has_newline}
-use Rattle.sy_base.specs.Reader.{Reading}
+use Rattle.sy_base.specs.LineReaderState.{LineReaderState}
 use Rattle.sy_base.specs.declared.lines.LineFault.{LineFault}
 use Rattle.sy_base.specs.declared.lines.LineFault.TheVariants as F
 use Rattle.sy_base.specs.declared.refusal.FileKind.TheVariants.{Log}
 use Rattle.sy_base.specs.declared.refusal.FaultName.TheVariants.{TooLong, TooManyLines}
 use Rattle.sy_core.specs.declared.deed.Deed.{Deed}
 use Rattle.sy_core.specs.declared.happening.Happening.{Happening}
-use Rattle.sy_run.specs.Holding.{Holds}
+use Rattle.sy_run.specs.Machine.Holding.{Holds}
 use Rattle.sy_run.specs.Output.{Reply, reply}
 use Rattle.sy_run.specs.RefusalText.{refusal_text, of_line}
-use Rattle.sy_run.specs.declared.files.Stop.{Stop}
-use Rattle.sy_run.specs.declared.files.Stop.TheVariants.{ReadFault, Refused, Memory}
+use Rattle.sy_run.specs.declared.stop.Stop.{Stop}
+use Rattle.sy_run.specs.declared.stop.Stop.TheVariants.{ReadFault, Refused, Memory}
 
 -- a text is that of a reply which doesn't end the output, and the set then holds what was noted
 pub record IsTextOf (points : BTreeSet ℤ) (defined : Reply) (text : List ℕ) : Type 0 where
@@ -36,7 +36,7 @@ stop_at lines F.TooManyLines = Refused (of_line Log (lines + 1) TooManyLines)
 stop_at lines F.Memory = Memory
 
 -- the next line was answered by this text
-pub record Answers (deed : Deed) (noted : List Happening) (points : BTreeSet ℤ) (old new : Reading) (rest : List ℕ) (left : Option (List ℕ)) (text : List ℕ) : Type 0 where
+pub record Answers (deed : Deed) (noted : List Happening) (points : BTreeSet ℤ) (old new : LineReaderState) (rest : List ℕ) (left : Option (List ℕ)) (text : List ℕ) : Type 0 where
   pub line : List ℕ
   pub after : List ℕ
   pub tells : left ≡ Some after
@@ -49,7 +49,7 @@ pub record Answers (deed : Deed) (noted : List Happening) (points : BTreeSet ℤ
   pub one : has_newline line ≡ false
 
 -- the next line is refused
-pub record Refuses (deed : Deed) (noted : List Happening) (old : Reading) (rest text : List ℕ) : Type 0 where
+pub record Refuses (deed : Deed) (noted : List Happening) (old : LineReaderState) (rest text : List ℕ) : Type 0 where
   pub line : List ℕ
   pub others : List (List ℕ)
   pub cut : lines_of (old.held ++ rest) ≡ line ∷ others
@@ -57,7 +57,7 @@ pub record Refuses (deed : Deed) (noted : List Happening) (old : Reading) (rest 
   pub same : (reply deed noted (old.given + 1) line).text ≡ text
 
 -- a read failed, after some bytes that end no line
-pub record BreaksOff (old : Reading) (rest : List ℕ) (left : Option (List ℕ)) : Type 0 where
+pub record BreaksOff (old : LineReaderState) (rest : List ℕ) (left : Option (List ℕ)) : Type 0 where
   pub part : List ℕ
   pub after : List ℕ
   pub tells : left ≡ Some after
@@ -66,7 +66,7 @@ pub record BreaksOff (old : Reading) (rest : List ℕ) (left : Option (List ℕ)
   pub open_end : old.ended ≡ false
 
 -- what is answered to the next line of an input that is told, after these happenings
-abbrev pub RepliesNext : Deed → List Happening → BTreeSet ℤ → Reading → Reading → List ℕ → Option (List ℕ) → Result (Option (List ℕ)) Stop → Type 0
+abbrev pub RepliesNext : Deed → List Happening → BTreeSet ℤ → LineReaderState → LineReaderState → List ℕ → Option (List ℕ) → Result (Option (List ℕ)) Stop → Type 0
 RepliesNext deed noted points old new rest left (Ok (Some text)) = Answers deed noted points old new rest left text
 RepliesNext deed noted points old new rest left (Ok None) = old.held ++ rest ≡ []
 RepliesNext deed noted points old new rest left (Err (Refused refusal)) = Refuses deed noted old rest (refusal_text refusal)
@@ -74,7 +74,7 @@ RepliesNext deed noted points old new rest left (Err ReadFault) = BreaksOff old 
 RepliesNext deed noted points old new rest left (Err Memory) = ⊤
 
 -- after a text the reader goes on, and the count of lines is its
-abbrev pub GoesOn : Reading → Reading → ℕ → Result (Option (List ℕ)) Stop → Type 0
+abbrev pub GoesOn : LineReaderState → LineReaderState → ℕ → Result (Option (List ℕ)) Stop → Type 0
 GoesOn old new lines (Ok (Some text)) = IsTrue new.live × (new.given ≡ old.given + 1) × (lines ≡ new.given) × (lines ≤ 2 ^ 32)
 GoesOn old new lines (Ok None) = ⊤
 GoesOn old new lines (Err e) = ⊤

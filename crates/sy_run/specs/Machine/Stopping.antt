@@ -2,8 +2,8 @@
 use Rattle.std.specs.Prelude.{⊤, Bool, true, false, Result, Ok, Err}
 use Rattle.sy_base.specs.declared.refusal.Refused.{Refused as WhyNot}
 use Rattle.sy_base.specs.declared.refusal.Refused.TheVariants as R
-use Rattle.sy_run.specs.declared.files.Stop.{Stop}
-use Rattle.sy_run.specs.declared.files.Stop.TheVariants.{ReadFault, Refused, Memory}
+use Rattle.sy_run.specs.declared.stop.Stop.{Stop}
+use Rattle.sy_run.specs.declared.stop.Stop.TheVariants.{ReadFault, Refused, Memory}
 
 -- a read failed
 abbrev pub is_read_stop : Stop → Bool

@@ -1,0 +1,5 @@
+pub mod Course
+pub mod Holding
+pub mod Replies
+pub mod Stopping
+pub mod Stream

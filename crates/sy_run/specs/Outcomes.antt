@@ -1,0 +1,79 @@
+-- The outcome of a command in a world: the text that it writes, and how it ends.
+use Rattle.std.specs.Prelude.{◌≡◌, ◌⊎◌, ℕ, Bool, true, false, List, [], Option, Some, Result, Ok, Err, ⊤}
+use Rattle.sy_base.specs.Lines.{lines_of, whole_lines_of}
+use Rattle.sy_core.specs.declared.deed.Deed.{Deed}
+use Rattle.sy_tree.specs.CanonicalText.{canonical_text}
+use Rattle.sy_tree.specs.declared.contract.SpecTree.{SpecTree}
+use Rattle.sy_run.specs.Commands.{Command, Compile, Monitor, Unknown, usage_line}
+use Rattle.sy_run.specs.Output.{output, is_refused}
+use Rattle.sy_run.specs.RefusalText.{refusal_text}
+use Rattle.sy_run.specs.Texts.{IsDeedIn, IsSpecIn}
+use Rattle.sy_run.specs.World.{World}
+use Rattle.sy_run.specs.declared.stop.Stop.{Stop}
+use Rattle.sy_run.specs.declared.stop.Stop.TheVariants as stop
+
+-- how a run ends that isn't cut short
+pub data End : Type 0 where
+  -- its work is done
+  Finished : End
+  -- a text is refused
+  Stopped : End
+  -- a file is missing
+  Missing : End
+  -- the words are no command
+  Misused : End
+
+pub record Outcome : Type 0 where
+  pub text : List ℕ
+  pub end : End
+
+-- the outcome where the files give nothing to work on
+abbrev pub stopped : Stop → Outcome
+stopped (stop.Refused refusal) = record { text = refusal_text refusal; end = Stopped }
+stopped why = record { text = []; end = Missing }
+
+-- the outcome of a specification that is compiled
+abbrev pub compiled : Result SpecTree Stop → Outcome
+compiled (Ok tree) = record { text = canonical_text tree; end = Finished }
+compiled (Err why) = stopped why
+
+-- the end of a log, one of whose lines may be refused
+abbrev pub end_of : Bool → End
+end_of true = Stopped
+end_of false = Finished
+
+-- the outcome of a log, where the files give this
+abbrev pub monitored : Result Deed Stop → List ℕ → Outcome
+monitored (Ok d) log = record { text = output d [] 1 (lines_of log); end = end_of (is_refused d [] 1 (lines_of log)) }
+monitored (Err why) log = stopped why
+
+-- the outcome of words that are no command
+abbrev pub usage : Outcome
+usage = record { text = usage_line; end = Misused }
+
+-- what a file gives, where its bytes are known, and what two files give
+abbrev pub GivesSpec : World → List ℕ → Result SpecTree Stop → Type 0
+GivesSpec world spec tree = (text : Option (List ℕ)) × (world.file spec ≡ Some text) × IsSpecIn text tree
+
+abbrev pub GivesDeed : World → List ℕ → List ℕ → Result Deed Stop → Type 0
+GivesDeed world spec bind deed =
+    (s : Option (List ℕ)) × (b : Option (List ℕ)) × (world.file spec ≡ Some s) × (world.file bind ≡ Some b) × IsDeedIn s b deed
+
+-- the outcome of a command in a world
+abbrev pub IsOutcome : Command → World → Outcome → Type 0
+IsOutcome (Compile spec) world outcome = (tree : Result SpecTree Stop) × GivesSpec world spec tree × (outcome ≡ compiled tree)
+IsOutcome (Monitor spec bind) world outcome =
+    (deed : Result Deed Stop) × GivesDeed world spec bind deed
+    × ((log : List ℕ) × (world.left ≡ Some log) × (outcome ≡ monitored deed log))
+IsOutcome Unknown world outcome = outcome ≡ usage
+
+-- all that the whole lines of a log ask for, where the files give this
+abbrev pub asked_by_lines : Result Deed Stop → List ℕ → List ℕ
+asked_by_lines (Ok d) taken = output d [] 1 (whole_lines_of taken)
+asked_by_lines (Err why) taken = []
+
+-- all that the bytes ask for that a command has taken from the input
+abbrev pub IsAskedFor : Command → World → List ℕ → List ℕ → Type 0
+IsAskedFor (Monitor spec bind) world taken text =
+    ((deed : Result Deed Stop) × GivesDeed world spec bind deed × (text ≡ asked_by_lines deed taken)) ⊎ ((taken ≡ []) × (text ≡ []))
+IsAskedFor command world taken text = text ≡ []
