@@ -9,9 +9,10 @@ use crate::moment::Moment;
 use crate::present::Present;
 use crate::verdict::verdict;
 use sy_core::{
-    Form, Goal, Kind, Position, StateOf, Target, Verb, Verdict, acts_on_contract, has_holds,
-    is_act, is_false, is_obligation, is_power, is_same_state, is_true, survives,
+    Goal, Position, StateOf, Target, Verdict, acts_on_contract, has_holds, is_act, is_false,
+    is_obligation, is_power, is_same_state, is_true, survives,
 };
+use sy_words::{Form, Kind, Verb};
 
 /// The target was in the state at the start of the point.
 fn was(now: &Moment, target: Target, state: StateOf) -> bool

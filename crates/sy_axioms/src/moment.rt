@@ -7,7 +7,8 @@ ghost use Rattle.sy_axioms.specs.Machine.KeptMoments.{has, set_of, state_in, mom
 
 use std::alloc::Global;
 use sy_base::{List, Memory, Point};
-use sy_core::{Ev, Kind, Situation, StateOf, Target, What, copy_states, is_same_state, matches};
+use sy_core::{Ev, Situation, StateOf, Target, What, copy_states, is_same_state, matches};
+use sy_words::Kind;
 
 /// Which kinds of internal event happen to one target at a point.
 #[derive(Clone, Copy, Debug, PartialEq, Eq)]

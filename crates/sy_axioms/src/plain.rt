@@ -17,7 +17,8 @@ use crate::states::states_after;
 use crate::verdict::verdict;
 use std::alloc::Global;
 use sy_base::{List, Memory, Point};
-use sy_core::{Deed, Happening, Kind, StateOf, Target, Verdict, What};
+use sy_core::{Deed, Happening, StateOf, Target, Verdict, What};
+use sy_words::Kind;
 
 /// The plain evaluator of a deed. It keeps every point from start on, and the next point is worked
 /// out by searching through all of them.

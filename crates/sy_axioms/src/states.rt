@@ -6,7 +6,8 @@ ghost use Rattle.sy_axioms.specs.Machine.KeptMoments.{has, moment_of, next_state
 use crate::moment::{Fired, Moment, States};
 use std::alloc::Global;
 use sy_base::{List, Memory};
-use sy_core::{Deed, Form, Kind, Position, StateOf, Target, contract_kinds, kinds_of};
+use sy_core::{Deed, Position, StateOf, Target, contract_kinds, kinds_of};
+use sy_words::{Form, Kind};
 
 /// An expired power has failed, and an expired obligation is discharged.
 fn expired_state(form: Form) -> StateOf

@@ -1,8 +1,1 @@
-pub mod Advances
-pub mod Appending
 pub mod DateTexts
-pub mod FileReads
-pub mod Keeping
-pub mod LineLemmas
-pub mod ReadLemmas
-pub mod ToldLines

@@ -1,12 +1,3 @@
 pub mod Dates
-pub mod FileReading
-pub mod LineReaderState
-pub mod LineReading
-pub mod Lines
-pub mod Machine
-pub mod Outside
-pub mod Planned
 pub mod Points
 pub mod Refusals
-pub mod Sure
-pub mod Writing

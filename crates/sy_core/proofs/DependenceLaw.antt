@@ -3,8 +3,8 @@ use Rattle.std.proofs.Common.{◌≡◌, ℕ, ℤ, Bool, true, false, not, ◌&&
 use Rattle.std.specs.Option.{option_map}
 use Rattle.std.specs.List.{list_any, list_all, flat_map}
 use Rattle.sy_base.specs.declared.time.TimeUnit.{TimeUnit}
-use Rattle.sy_core.specs.declared.kind.Kind.{Kind}
-use Rattle.sy_core.specs.declared.kind.Kind.TheVariants.{Exerted, Triggered, Activated, Resumed, Suspended, Fulfilled, Violated, Expired, Discharged, Terminated, Completed}
+use Rattle.sy_words.specs.declared.kind.Kind.{Kind}
+use Rattle.sy_words.specs.declared.kind.Kind.TheVariants.{Exerted, Triggered, Activated, Resumed, Suspended, Fulfilled, Violated, Expired, Discharged, Terminated, Completed}
 use Rattle.sy_core.specs.declared.kind.Target.{Target}
 use Rattle.sy_core.specs.declared.kind.Target.TheVariants as T
 use Rattle.sy_core.specs.declared.state.StateOf.{StateOf}
@@ -19,9 +19,9 @@ use Rattle.sy_core.specs.declared.proposition.Prop.TheOpen.{Prop-F}
 use Rattle.sy_core.specs.declared.proposition.Prop.TheOpen as P
 use Rattle.sy_core.specs.declared.proposition.Prop.TheViews.{roll-Prop}
 use Rattle.sy_core.specs.declared.proposition.Prop.TheFolds.{fold-roll-Prop, map-Prop, ind-Prop}
-use Rattle.sy_core.specs.declared.position.Form.{Form}
-use Rattle.sy_core.specs.declared.position.Verb.{Verb}
-use Rattle.sy_core.specs.declared.position.Verb.TheVariants as Verbs
+use Rattle.sy_words.specs.declared.form.Form.{Form}
+use Rattle.sy_words.specs.declared.verb.Verb.{Verb}
+use Rattle.sy_words.specs.declared.verb.Verb.TheVariants as Verbs
 use Rattle.sy_core.specs.declared.position.Goal.{Goal}
 use Rattle.sy_core.specs.declared.position.Goal.TheVariants as G
 use Rattle.sy_core.specs.declared.position.Position.{Position}

@@ -2,8 +2,8 @@
 use Rattle.std.proofs.Common.{◌≡◌, ℕ, ℤ, Bool, true, false, ◌==◌, List, [], ◌∷◌, ◌⊎◌, inl, inr, refl, ◌∙◌, ap, subst, rules}
 use Rattle.std.proofs.lemmas.Bool.Decides.{Decides-eqb}
 use denote.Enum.Bare.{sameb, same_true, same_false}
-use Rattle.sy_core.specs.contracts.kind.Kind.{the_type}
-use Rattle.sy_core.specs.declared.kind.Kind.{Kind}
+use Rattle.sy_words.specs.contracts.kind.Kind.{the_type}
+use Rattle.sy_words.specs.declared.kind.Kind.{Kind}
 use Rattle.sy_core.specs.declared.kind.Target.{Target}
 use Rattle.sy_core.specs.declared.kind.Target.TheVariants as T
 use Rattle.sy_core.specs.declared.state.StateOf.{StateOf}

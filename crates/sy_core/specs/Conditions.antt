@@ -3,8 +3,8 @@
 use Rattle.std.specs.Prelude.{ℕ, ◌+◌, Bool, true, false, not, ◌&&◌, ◌||◌, ◌==◌, List, [], ◌∷◌, ◌++◌, Option, Some, None, slice_get, length, filter, flat_map}
 use Rattle.std.specs.List.{list_any, list_all, enumerate_from}
 use Rattle.sy_base.specs.declared.time.TimeUnit.{TimeUnit}
-use Rattle.sy_core.specs.declared.kind.Kind.{Kind}
-use Rattle.sy_core.specs.declared.kind.Kind.TheVariants.{Exerted, Triggered, Activated, Resumed, Suspended, Fulfilled, Violated, Expired, Discharged, Terminated, Completed}
+use Rattle.sy_words.specs.declared.kind.Kind.{Kind}
+use Rattle.sy_words.specs.declared.kind.Kind.TheVariants.{Exerted, Triggered, Activated, Resumed, Suspended, Fulfilled, Violated, Expired, Discharged, Terminated, Completed}
 use Rattle.sy_core.specs.declared.kind.Target.{Target}
 use Rattle.sy_core.specs.declared.kind.Target.TheVariants as T
 use Rattle.sy_core.specs.declared.event.Ev.TheVariants.{Inner}
@@ -12,10 +12,10 @@ use Rattle.sy_core.specs.declared.state.StateOf.{StateOf}
 use Rattle.sy_core.specs.declared.state.StateOf.TheVariants as S
 use Rattle.sy_core.specs.declared.table.Verdict.{Verdict}
 use Rattle.sy_core.specs.declared.table.Verdict.TheVariants.{Open}
-use Rattle.sy_core.specs.declared.position.Form.{Form}
-use Rattle.sy_core.specs.declared.position.Form.TheVariants.{Obligation, Surviving, Power}
-use Rattle.sy_core.specs.declared.position.Verb.{Verb}
-use Rattle.sy_core.specs.declared.position.Verb.TheVariants as Verbs
+use Rattle.sy_words.specs.declared.form.Form.{Form}
+use Rattle.sy_words.specs.declared.form.Form.TheVariants.{Obligation, Surviving, Power}
+use Rattle.sy_words.specs.declared.verb.Verb.{Verb}
+use Rattle.sy_words.specs.declared.verb.Verb.TheVariants as Verbs
 use Rattle.sy_core.specs.declared.position.Goal.{Goal}
 use Rattle.sy_core.specs.declared.position.Goal.TheVariants as G
 use Rattle.sy_core.specs.declared.position.Position.{Position}

@@ -7,8 +7,8 @@ use Rattle.std.specs.Bool.{beq}
 use Rattle.std.specs.Ordering.{int_eq}
 use Rattle.std.specs.List.{list_all}
 use Rattle.std.specs.Cmp.Lexicographic.{pointwise}
-use Rattle.sy_core.specs.declared.value.Cmp.{Cmp}
-use Rattle.sy_core.specs.declared.value.Cmp.TheVariants.{Eq, Ne, Lt, Le, Gt, Ge}
+use Rattle.sy_words.specs.declared.comparison.Cmp.{Cmp}
+use Rattle.sy_words.specs.declared.comparison.Cmp.TheVariants.{Eq, Ne, Lt, Le, Gt, Ge}
 use Rattle.sy_core.specs.declared.value.Value.{Value}
 use Rattle.sy_core.specs.declared.value.Value.TheVariants as V
 use Rattle.sy_core.specs.declared.event.Guard.{Guard}

@@ -1,8 +1,8 @@
 -- What stands in a proposition: the internal events that it names, its date terms, and whether it asks for a state now.
 use Rattle.std.specs.Prelude.{Bool, true, false, ◌&&◌, ◌==◌, List, [], ◌∷◌, ◌++◌, map}
 use Rattle.std.specs.List.{list_any, flat_map}
-use Rattle.sy_core.specs.declared.kind.Kind.{Kind}
-use Rattle.sy_core.specs.declared.kind.Kind.TheVariants.{Violated}
+use Rattle.sy_words.specs.declared.kind.Kind.{Kind}
+use Rattle.sy_words.specs.declared.kind.Kind.TheVariants.{Violated}
 use Rattle.sy_core.specs.declared.kind.Target.{Target}
 use Rattle.sy_core.specs.declared.kind.Target.TheVariants as T
 use Rattle.sy_core.specs.declared.event.Ev.{Ev}

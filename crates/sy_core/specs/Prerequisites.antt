@@ -3,14 +3,14 @@
 -- positions: for each power Exert, Trig, Act and End, for each obligation Trig, Act and End; last Contract.
 use Rattle.std.specs.Prelude.{ℕ, Bool, true, false, ◌==◌, List, [], ◌∷◌, ◌++◌, map, length, Option, Some, None, slice_get, if◌then◌else◌}
 use Rattle.std.specs.List.{position_or_len, filter, flat_map}
-use Rattle.sy_core.specs.declared.kind.Kind.{Kind}
-use Rattle.sy_core.specs.declared.kind.Kind.TheVariants.{Exerted, Triggered, Activated, Resumed, Suspended, Fulfilled, Violated, Expired, Discharged, Terminated, Completed}
+use Rattle.sy_words.specs.declared.kind.Kind.{Kind}
+use Rattle.sy_words.specs.declared.kind.Kind.TheVariants.{Exerted, Triggered, Activated, Resumed, Suspended, Fulfilled, Violated, Expired, Discharged, Terminated, Completed}
 use Rattle.sy_core.specs.declared.kind.Target.{Target}
 use Rattle.sy_core.specs.declared.kind.Target.TheVariants as T
-use Rattle.sy_core.specs.declared.position.Form.{Form}
-use Rattle.sy_core.specs.declared.position.Form.TheVariants.{Power}
-use Rattle.sy_core.specs.declared.position.Verb.{Verb}
-use Rattle.sy_core.specs.declared.position.Verb.TheVariants as Verbs
+use Rattle.sy_words.specs.declared.form.Form.{Form}
+use Rattle.sy_words.specs.declared.form.Form.TheVariants.{Power}
+use Rattle.sy_words.specs.declared.verb.Verb.{Verb}
+use Rattle.sy_words.specs.declared.verb.Verb.TheVariants as Verbs
 use Rattle.sy_core.specs.declared.position.Position.{Position}
 use Rattle.sy_core.specs.declared.deed.Deed.{Deed}
 use Rattle.sy_core.specs.Mentions.{InternalEvent, names_of, names_of_duty}

@@ -2,7 +2,7 @@
 -- From start on it has the states after the date, the violations up to it, the exertions in the narrative up to it that did nothing, and
 -- the verdict of each postcondition at it. Before start the contract is Form, every position is Null, and every postcondition is Open.
 use Rattle.std.specs.Prelude.{ℕ, suc, ℤ, pos, ◌+ℤ◌, ◌-ℤ◌, nat_abs, ◌+◌, Bool, not, ◌&&◌, List, [], ◌∷◌, ◌++◌, map, replicate, length, int_lt, if◌then◌else◌}
-use Rattle.sy_core.specs.declared.kind.Kind.TheVariants.{Exerted, Violated}
+use Rattle.sy_words.specs.declared.kind.Kind.TheVariants.{Exerted, Violated}
 use Rattle.sy_core.specs.declared.kind.Target.{Target}
 use Rattle.sy_core.specs.declared.kind.Target.TheVariants as T
 use Rattle.sy_core.specs.declared.event.Ev.TheVariants.{Inner}

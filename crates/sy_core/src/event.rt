@@ -1,6 +1,7 @@
-use crate::kind::{Kind, Target};
-use crate::value::{Cmp, Value};
+use crate::kind::Target;
+use crate::value::Value;
 use sy_base::List;
+use sy_words::{Cmp, Kind};
 
 /// A comparison of one attribute of a happening with a value.
 #[derive(Debug, Drop)]

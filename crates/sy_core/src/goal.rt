@@ -3,8 +3,9 @@ ghost use Rattle.sy_core.specs.Mentions.{same_target};
 ghost use Rattle.sy_core.specs.Conditions.{verb_number, is_act, acts_on_contract, is_power, is_obligation, survives, is_awaited, is_settled};
 
 use crate::kind::Target;
-use crate::position::{Form, Goal, Verb};
+use crate::position::Goal;
 use crate::state::StateOf;
+use sy_words::{Form, Verb};
 
 /// The form is that of a power.
 pub fn is_power(form: Form) -> bool

@@ -1,31 +1,7 @@
 ghost use Rattle.std.specs.Prelude.{◌≡◌};
 ghost use Rattle.sy_core.specs.States.{kinds_of, contract_kinds};
 
-use crate::position::Form;
-
-/// The kinds of internal event. They stand here in the order in which those of one point count: a
-/// target's state after the point is the one that its last kind gives.
-#[derive(Clone, Copy, Debug, PartialEq, Eq)]
-pub enum Kind {
-    /// A power was exerted.
-    Exerted,
-    /// A position was created.
-    Triggered,
-    /// A position came into effect.
-    Activated,
-    Resumed,
-    Suspended,
-    /// An obligation was kept.
-    Fulfilled,
-    /// An obligation was broken.
-    Violated,
-    /// A position's antecedent failed.
-    Expired,
-    Discharged,
-    Terminated,
-    /// The contract came to its good end.
-    Completed,
-}
+use sy_words::{Form, Kind};
 
 /// What an internal event, an act or a situation is about.
 #[derive(Clone, Copy, Debug, PartialEq, Eq)]

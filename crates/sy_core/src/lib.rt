@@ -28,14 +28,15 @@ pub use goal::{
     survives,
 };
 pub use happening::{Happening, What};
-pub use kind::{Kind, Target, contract_kinds, kinds_of};
+pub use kind::{Target, contract_kinds, kinds_of};
 pub use matching::matches;
-pub use position::{Act, Form, Goal, Position, Verb};
+pub use position::{Act, Goal, Position};
 pub use proposition::{Prop, Situation};
 pub use remedy::{has_holds, is_remedy};
 pub use rounds_law::rounds_settle;
 pub use sqlite_items::{Boxed, Items};
 pub use state::{StateOf, copy_states, is_same_state};
+pub use sy_words::{Cmp, Form, Kind, Verb};
 pub use table::{Mark, Table, Verdict};
-pub use value::{Cmp, Value, ValueKind};
+pub use value::{Value, ValueKind};
 pub use verdict::{greater, is_false, is_true, lesser, opposite};

@@ -3,7 +3,8 @@ ghost use Rattle.sy_core.specs.Matching.{matches, guards_hold, guard_holds, comp
 
 use crate::event::{Ev, Guard};
 use crate::happening::What;
-use crate::value::{Cmp, Value};
+use crate::value::Value;
+use sy_words::Cmp;
 
 fn numbers_compare(cmp: Cmp, a: i64, b: i64) -> bool
     ensures { result ≡ numbers_compare cmp a b }

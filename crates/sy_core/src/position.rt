@@ -1,25 +1,7 @@
 use crate::kind::Target;
 use crate::proposition::Prop;
 use sy_base::Text;
-
-/// What sort of position it is.
-#[derive(Clone, Copy, Debug, PartialEq, Eq)]
-pub enum Form {
-    Obligation,
-    /// An obligation that heeds no state of the contract.
-    Surviving,
-    Power,
-}
-
-/// What a power does.
-#[derive(Clone, Copy, Debug, PartialEq, Eq)]
-pub enum Verb {
-    Suspends,
-    Resumes,
-    Discharges,
-    Terminates,
-    Triggers,
-}
+use sy_words::{Form, Verb};
 
 /// A power's act: what it does, and to what.
 #[derive(Clone, Copy, Debug, PartialEq, Eq)]

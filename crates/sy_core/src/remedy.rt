@@ -6,9 +6,10 @@ ghost use Rattle.sy_core.specs.Conditions.{is_remedy};
 use crate::date_term::{Base, DateTerm};
 use crate::event::Ev;
 use crate::goal::{is_obligation, is_same_target};
-use crate::kind::{Kind, Target};
+use crate::kind::Target;
 use crate::position::Position;
 use crate::proposition::Prop;
+use sy_words::Kind;
 
 /// The event is the violation of the target.
 fn is_violation(ev: &Ev, violated: Target) -> bool

@@ -1,7 +1,8 @@
-use crate::{Cmp, Ev, Guard, Happening, Kind, StateOf, Target, Value, What, copy_states, matches};
+use crate::{Ev, Guard, Happening, StateOf, Target, Value, What, copy_states, matches};
 use std::alloc::Global;
 use std::test::Fail;
 use sy_base::{List, Text};
+use sy_words::{Cmp, Kind};
 
 fn list_of<T: Drop>(alloc: Global, items: Vec<T>) -> Result<List<T>, Fail> {
     let mut list = List::new(alloc);

@@ -27,17 +27,6 @@ pub enum Value {
     Choice(u32, u32),
 }
 
-/// How a guard compares.
-#[derive(Clone, Copy, Debug, PartialEq, Eq)]
-pub enum Cmp {
-    Eq,
-    Ne,
-    Lt,
-    Le,
-    Gt,
-    Ge,
-}
-
 impl Value {
     /// An equal value.
     pub fn copy(&self, alloc: Global) -> Result<Value, Memory>

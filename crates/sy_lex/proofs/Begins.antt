@@ -13,7 +13,7 @@ use Rattle.sy_lex.specs.Bytes.{is_letter, is_digit, is_blank, is_quote}
 use Rattle.sy_lex.specs.Keywords.{keyword_text}
 use Rattle.sy_lex.specs.Signs.{sign_text}
 use Rattle.sy_lex.specs.Forms.{IsWord, IsNumber, IsString, HasForm}
-use Rattle.sy_lex.specs.Cutting.{string_step, slash_step, word_step, digit_step, sign_step, step_at}
+use Rattle.sy_lex.specs.Machine.Cutting.{string_step, slash_step, word_step, digit_step, sign_step, step_at}
 use Rattle.sy_lex.proofs.Dates.{date_shape}
 use Rattle.sy_lex.proofs.Words.{keyword_is_word}
 use Rattle.sy_lex.proofs.SignTexts.{BeginsSign, sign_complete, sign_first}

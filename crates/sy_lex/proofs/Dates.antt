@@ -5,7 +5,7 @@ use Rattle.std.proofs.lemmas.Bool.{cases_Bool, false≢true, and_parts, eqb-true
 use Rattle.std.proofs.lemmas.List.{length-take-le, take_min}
 use Rattle.sy_base.specs.Dates.{TimeOfDay, written_date, with_parts, time_text, number4, number2}
 use Rattle.sy_lex.specs.Bytes.{is_digit}
-use Rattle.sy_lex.specs.Cutting.{begins_date, date_length}
+use Rattle.sy_lex.specs.Machine.Cutting.{begins_date, date_length}
 use Rattle.sy_lex.specs.Tokens.{BeginsDate}
 
 -- how many bytes dates have

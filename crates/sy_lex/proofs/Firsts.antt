@@ -14,7 +14,7 @@ use Rattle.sy_lex.specs.Bytes.{is_letter, is_digit, is_word_byte}
 use Rattle.sy_lex.specs.Keywords.{keyword_of}
 use Rattle.sy_lex.specs.Forms.{IsReserved, IsNumber, HasForm}
 use Rattle.sy_lex.specs.Tokens.{IsFirst, BeginsDate}
-use Rattle.sy_lex.specs.Cutting.{step_at, word_step, kind_of_word, number_step, digit_step, date_or_number, date_length, sign_step, sign_or_fault}
+use Rattle.sy_lex.specs.Machine.Cutting.{step_at, word_step, kind_of_word, number_step, digit_step, date_or_number, date_length, sign_step, sign_or_fault}
 use Rattle.sy_lex.proofs.Begins as c
 use Rattle.sy_lex.proofs.Begins.{Class, class_of, class_of_kind, class_step, step_by_class, Begins, begins, letter_form}
 use Rattle.sy_lex.proofs.Dates.{date_shape, date_found, date_most, date_within}

@@ -6,7 +6,7 @@ use Rattle.sy_lex.specs.declared.step.Step.{Step}
 use Rattle.sy_lex.specs.declared.step.Step.TheVariants as S
 use Rattle.sy_lex.specs.declared.string.Inside.{Inside}
 use Rattle.sy_lex.specs.declared.string.Inside.TheVariants as I
-use Rattle.sy_lex.specs.Cutting.{next_inside, string_step}
+use Rattle.sy_lex.specs.Machine.Cutting.{next_inside, string_step}
 
 -- what is left to do once it is known what stands next
 abbrev pub goes_inside : ℕ → ℕ → List ℕ → Inside → Step

@@ -3,7 +3,7 @@ use Rattle.std.proofs.Common.{◌≡◌, ℕ, zero, suc, ◌+◌, ◌<◌, ◌�
 use Rattle.std.proofs.lemmas.Bool.Decides.{nat_tests}
 use Rattle.std.proofs.lemmas.List.{take_more}
 use Rattle.sy_lex.specs.declared.spot.Spot.{Spot}
-use Rattle.sy_lex.specs.Room.{HasRoom}
+use Rattle.sy_lex.specs.Machine.Room.{HasRoom}
 use Rattle.sy_lex.specs.Tokens.{next_spot, spot_after}
 
 next_room : (at : Spot) (b m : ℕ) → HasRoom at (suc m) → HasRoom (next_spot at b) m

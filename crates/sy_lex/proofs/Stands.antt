@@ -19,7 +19,7 @@ use Rattle.sy_lex.specs.Signs.{sign_at}
 use Rattle.sy_lex.specs.Forms.{IsWord, HasForm}
 use Rattle.sy_lex.specs.Tokens as g
 use Rattle.sy_lex.specs.Tokens.{IsFirst, BeginsDate, Lexes, comment_length, next_spot, spot_after}
-use Rattle.sy_lex.specs.Cutting.{step_at, slash_step, word_step, kind_of_word, number_step, date_or_number, date_length, sign_or_fault}
+use Rattle.sy_lex.specs.Machine.Cutting.{step_at, slash_step, word_step, kind_of_word, number_step, date_or_number, date_length, sign_or_fault}
 use Rattle.sy_lex.proofs.Begins as c
 use Rattle.sy_lex.proofs.Begins.{Class, class_of, class_step, step_by_class, letter_class, digit_class, letter_form, digit_form, quote_form, other_form}
 use Rattle.sy_lex.proofs.Dates.{date_found, date_most}

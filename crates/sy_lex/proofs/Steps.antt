@@ -7,7 +7,7 @@ use Rattle.sy_lex.specs.declared.spot.Spot.{Spot}
 use Rattle.sy_lex.specs.declared.step.Step.{Step}
 use Rattle.sy_lex.specs.declared.step.Step.TheVariants as S
 use Rattle.sy_lex.specs.Tokens.{next_spot, spot_after, token_at}
-use Rattle.sy_lex.specs.Cutting.{step_at, Moves, Cut, with_first, taken, cut_at}
+use Rattle.sy_lex.specs.Machine.Cutting.{step_at, Moves, Cut, with_first, taken, cut_at}
 
 abbrev pub with_front : List Token → Cut → Cut
 with_front front (Ok tokens) = Ok (front ++ tokens)

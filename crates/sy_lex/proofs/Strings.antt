@@ -9,7 +9,7 @@ use Rattle.sy_lex.specs.declared.step.Step.TheVariants as S
 use Rattle.sy_lex.specs.Bytes.{is_newline, is_quote, is_backslash, is_escaped}
 use Rattle.sy_lex.specs.Forms as f
 use Rattle.sy_lex.specs.Forms.{HasContent, IsString}
-use Rattle.sy_lex.specs.Cutting.{string_step, step_at}
+use Rattle.sy_lex.specs.Machine.Cutting.{string_step, step_at}
 
 over_escape : (left at b : ℕ) (bytes : List ℕ) → is_escaped b ≡ true → 0 < left
     → string_step left at (92 ∷ b ∷ bytes) ≡ string_step (left - 1) (at + 2) bytes

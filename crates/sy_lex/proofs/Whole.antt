@@ -16,7 +16,7 @@ use Rattle.sy_lex.specs.declared.step.Step.TheVariants as S
 use Rattle.sy_lex.specs.Bytes.{is_comment_byte}
 use Rattle.sy_lex.specs.Tokens as g
 use Rattle.sy_lex.specs.Tokens.{IsFirst, Lexes, HasText, IsReadAs, comment_length, first_spot, next_spot, spot_after, token_at}
-use Rattle.sy_lex.specs.Cutting.{step_at, Moves, Cut, with_first, cut_at, cut_of, Gives, refused_as}
+use Rattle.sy_lex.specs.Machine.Cutting.{step_at, Moves, Cut, with_first, cut_at, cut_of, Gives, refused_as}
 use Rattle.sy_lex.proofs.Begins as c
 use Rattle.sy_lex.proofs.Begins.{blank_class, step_by_class}
 use Rattle.sy_lex.proofs.Firsts.{first_class, first_step}

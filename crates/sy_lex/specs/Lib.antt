@@ -1,8 +1,7 @@
 pub mod Bytes
-pub mod Keywords
-pub mod Signs
 pub mod Forms
-pub mod Tokens
+pub mod Keywords
 pub mod Lexemes
-pub mod Cutting
-pub mod Room
+pub mod Machine
+pub mod Signs
+pub mod Tokens

@@ -1,5 +1,5 @@
 ghost use Rattle.std.specs.Prelude.{◌≡◌, ◌<◌, ◌^◌, length, List, IfOk, IfErr};
-ghost use Rattle.sy_lex.specs.Cutting.{Gives, cut_of, refused_as};
+ghost use Rattle.sy_lex.specs.Machine.Cutting.{Gives, cut_of, refused_as};
 ghost use Rattle.sy_lex.specs.Tokens.{HasText, IsLexFault, IsReadAs};
 ghost use Rattle.sy_lex.specs.declared.cut.LexFault.TheVariants.{Memory as Wanting};
 ghost use Rattle.sy_lex.specs.declared.token.Token.{Token as AToken};

@@ -1,6 +1,6 @@
 ghost use Rattle.std.specs.Prelude.{ℕ, ◌≡◌, ◌+◌, ◌<◌, ◌^◌, length};
 ghost use Rattle.sy_lex.specs.Tokens.{end_of, first_spot, next_spot, spot_after, token_at};
-ghost use Rattle.sy_lex.specs.Room.{HasRoom};
+ghost use Rattle.sy_lex.specs.Machine.Room.{HasRoom};
 
 use crate::{Token, TokenKind};
 use sy_base::Place;

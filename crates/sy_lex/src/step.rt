@@ -1,7 +1,7 @@
 ghost use Rattle.std.specs.Prelude.{◌≡◌, ◌+◌, ◌<◌, ◌≤◌, ◌^◌, true, IfSome, length, slice_index};
 ghost use Rattle.sy_lex.specs.Bytes as of_byte;
-ghost use Rattle.sy_lex.specs.Cutting as cutting;
-ghost use Rattle.sy_lex.specs.Cutting.{Moves, step_at};
+ghost use Rattle.sy_lex.specs.Machine.Cutting as cutting;
+ghost use Rattle.sy_lex.specs.Machine.Cutting.{Moves, step_at};
 
 use crate::bytes::{digits_length, is_blank, is_letter, line_length, word_length};
 use crate::string::string;

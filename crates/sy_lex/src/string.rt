@@ -1,6 +1,6 @@
 ghost use Rattle.std.specs.Prelude.{◌≡◌, ◌+◌, ◌<◌, ◌^◌, length};
-ghost use Rattle.sy_lex.specs.Cutting as cutting;
-ghost use Rattle.sy_lex.specs.Cutting.{IsWithin, Moves, string_step};
+ghost use Rattle.sy_lex.specs.Machine.Cutting as cutting;
+ghost use Rattle.sy_lex.specs.Machine.Cutting.{IsWithin, Moves, string_step};
 
 use crate::TokenKind;
 use crate::step::Step;

@@ -8,10 +8,10 @@ use Rattle.sy_lex.specs.declared.sign.Sign.{Sign}
 use Rattle.sy_lex.specs.declared.token.TokenKind.{TokenKind}
 use Rattle.sy_lex.specs.declared.token.TokenKind.TheVariants as S
 use Rattle.sy_lex.specs.Lexemes.{Lexeme, written}
-use Rattle.sy_tree.specs.Grammar as grammar
-use Rattle.sy_tree.specs.Grammar.{Rule, spelled, lexeme, token, keyword, sign, before, behind, ahead}
-use Rattle.sy_reader.specs.Reader as reader
-use Rattle.sy_reader.specs.Reader.{Read, Reading, and_then, give, is_kind, lexeme_at, token_at, place_at, keyword_at, sign_at, before_at, behind_at, ahead_at}
+use Rattle.sy_reader.specs.Grammar as grammar
+use Rattle.sy_reader.specs.Grammar.{Rule, spelled, lexeme, token, keyword, sign, before, behind, ahead}
+use Rattle.sy_reader.specs.Machine.Reading as reader
+use Rattle.sy_reader.specs.Machine.Reading.{Read, Reading, and_then, give, is_kind, lexeme_at, token_at, place_at, keyword_at, sign_at, before_at, behind_at, ahead_at}
 
 -- what is asked of the lexemes behind those that a rule spells
 abbrev pub Behind : Type 1

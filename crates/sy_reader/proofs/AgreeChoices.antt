@@ -3,10 +3,10 @@ use Rattle.std.proofs.Common.{◌≡◌, ◌⊎◌, inl, inr, true, false, List,
 use Rattle.sy_lex.specs.declared.token.TokenKind.{TokenKind}
 use Rattle.sy_lex.specs.declared.written.Written.{Written}
 use Rattle.sy_lex.specs.Lexemes.{Lexeme}
-use Rattle.sy_tree.specs.Grammar as grammar
-use Rattle.sy_tree.specs.Grammar.{Rule, spelled, token}
-use Rattle.sy_reader.specs.Reader as reader
-use Rattle.sy_reader.specs.Reader.{Read, Reading, give, fail, begins_with, by_next, token_at}
+use Rattle.sy_reader.specs.Grammar as grammar
+use Rattle.sy_reader.specs.Grammar.{Rule, spelled, token}
+use Rattle.sy_reader.specs.Machine.Reading as reader
+use Rattle.sy_reader.specs.Machine.Reading.{Read, Reading, give, fail, begins_with, by_next, token_at}
 use Rattle.sy_reader.proofs.Agree.{Behind, Any, Sound, Complete, Within, within_or, Agrees, Next, Begins, Is, Differs, it_is, chosen, spelled_agrees, anywhere, node_agrees, token_agrees}
 use Rattle.sy_reader.proofs.AgreeMany.{Without}
 

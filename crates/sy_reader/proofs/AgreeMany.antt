@@ -7,10 +7,10 @@ use Rattle.sy_lex.specs.declared.sign.Sign.TheVariants as Sg
 use Rattle.sy_lex.specs.declared.token.TokenKind.{TokenKind}
 use Rattle.sy_lex.specs.declared.token.TokenKind.TheVariants as S
 use Rattle.sy_lex.specs.Lexemes.{Lexeme}
-use Rattle.sy_tree.specs.Grammar as grammar
-use Rattle.sy_tree.specs.Grammar.{Rule, spelled, Many, none, more, many, up_to, behind, listed}
-use Rattle.sy_reader.specs.Reader as reader
-use Rattle.sy_reader.specs.Reader.{Read, Reading, give, is_kind, begins_with, next_passes, with_first, while_at, many_at, behind_at, listed_at}
+use Rattle.sy_reader.specs.Grammar as grammar
+use Rattle.sy_reader.specs.Grammar.{Rule, spelled, Many, none, more, many, up_to, behind, listed}
+use Rattle.sy_reader.specs.Machine.Reading as reader
+use Rattle.sy_reader.specs.Machine.Reading.{Read, Reading, give, is_kind, begins_with, next_passes, with_first, while_at, many_at, behind_at, listed_at}
 use Rattle.sy_reader.proofs.Agree.{Behind, Sound, Agrees, Takes, Next, Begins, Is, is_it, it_is, not_it, steps, same_read, chosen, then_agrees, node_agrees, behind_agrees, begins_as, begins_then, sign_begins, sign_takes, takes_then}
 
 -- a kind goes on with what has its rank as its level, or a higher one, and ends what has a lower one

@@ -1,4 +1,7 @@
-pub mod Loops
 pub mod Agree
-pub mod AgreeMany
 pub mod AgreeChoices
+pub mod AgreeLists
+pub mod AgreeMany
+pub mod Agreeing
+pub mod Answering
+pub mod Loops

@@ -5,7 +5,7 @@ use Rattle.sy_reader.specs.declared.fault.Fault.{Fault}
 use Rattle.sy_reader.specs.declared.fault.Fault.TheVariants as F
 use Rattle.sy_lex.specs.Lexemes.{Lexeme}
 use Rattle.sy_lex.specs.declared.token.TokenKind.{TokenKind}
-use Rattle.sy_reader.specs.Reader.{Read, Reading, and_then, give, and_more, next_passes, while_at, many_at, with_first, Reads, begins_with, is_kind, each_behind, listed_at}
+use Rattle.sy_reader.specs.Machine.Reading.{Read, Reading, and_then, give, and_more, next_passes, while_at, many_at, with_first, Reads, begins_with, is_kind, each_behind, listed_at}
 use Rattle.sy_lex.specs.declared.sign.Sign.TheVariants.{Comma}
 
 regroup : {A : Type 0} (front : List A) (x : A) (read : Read (List A)) → and_then (with_first x read) (λ xs. give (front ++ xs)) ≡ and_then read (λ xs. give ((front ++ x ∷ []) ++ xs))

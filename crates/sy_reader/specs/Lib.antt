@@ -1,1 +1,3 @@
-pub mod Reader
+pub mod Faults
+pub mod Grammar
+pub mod Machine

@@ -1,8 +1,8 @@
 ghost use Rattle.std.specs.Prelude.{◌≡◌, ◌<◌, length, OnOk};
 ghost use Rattle.sy_lex.specs.Lexemes.{lexemes_of};
 ghost use Rattle.sy_lex.specs.declared.token.TokenKind.TheVariants as kinds;
-ghost use Rattle.sy_reader.specs.Reader as spec;
-ghost use Rattle.sy_reader.specs.Reader.{Peeks, Reads, begins_with, keyword_at, next_kind, sign_at, token_at};
+ghost use Rattle.sy_reader.specs.Machine.Reading as spec;
+ghost use Rattle.sy_reader.specs.Machine.Reading.{Peeks, Reads, begins_with, keyword_at, next_kind, sign_at, token_at};
 
 use crate::fault::Fault;
 use crate::lexeme::Lexeme;

@@ -6,7 +6,7 @@ use Rattle.std.proofs.Math.Bool.{and-false}
 use Rattle.sy_base.specs.declared.time.TimeUnit.TheVariants.{Day}
 use Rattle.sy_base.specs.Points.{IsDated, least_point, greatest_point}
 use Rattle.sy_core.specs.declared.event.Ev.TheVariants.{Outer, Inner}
-use Rattle.sy_core.specs.declared.kind.Kind.TheVariants.{Exerted}
+use Rattle.sy_words.specs.declared.kind.Kind.TheVariants.{Exerted}
 use Rattle.sy_core.specs.declared.kind.Target.TheVariants as T
 use Rattle.sy_core.specs.declared.date_term.Base.TheVariants.{Fixed}
 use Rattle.sy_core.specs.declared.proposition.Prop.TheVariants as Props

@@ -4,14 +4,14 @@ use Rattle.std.proofs.lemmas.Bool.Decides.{nat_tests}
 use Rattle.std.specs.declared.option.Option.{Option}
 use Rattle.std.specs.Option.{is_some}
 use Rattle.std.specs.BTreeSet.{BTreeSet}
-use Rattle.sy_base.specs.Lines.{lines_of}
-use Rattle.sy_base.specs.LineReaderState.{LineReaderState}
-use Rattle.sy_base.specs.LineReading.{Next, CutsLines}
-use Rattle.sy_base.specs.declared.lines.Line.{Line}
-use Rattle.sy_base.specs.declared.lines.LineFault.{LineFault}
-use Rattle.sy_base.specs.declared.lines.LineFault.TheVariants as F
+use Rattle.sy_outside.specs.Lines.{lines_of}
+use Rattle.sy_outside.specs.LineReaderState.{LineReaderState}
+use Rattle.sy_outside.specs.LineReading.{Next, CutsLines}
+use Rattle.sy_outside.specs.declared.lines.Line.{Line}
+use Rattle.sy_outside.specs.declared.lines.LineFault.{LineFault}
+use Rattle.sy_outside.specs.declared.lines.LineFault.TheVariants as F
 use Rattle.sy_base.specs.declared.refusal.FaultName.TheVariants.{TooLong, TooManyLines}
-use Rattle.sy_base.proofs.ToldLines.{taken_from, next-synced}
+use Rattle.sy_outside.proofs.ToldLines.{taken_from, next-synced}
 use Rattle.sy_core.specs.declared.deed.Deed.{Deed}
 use Rattle.sy_core.specs.declared.happening.Happening.{Happening}
 use Rattle.sy_run.specs.Output.{reply, refused_line, reply_or_refuse}

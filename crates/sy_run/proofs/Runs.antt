@@ -5,11 +5,11 @@ use Rattle.std.proofs.lemmas.List.{append_cancel_right}
 use Rattle.std.specs.Prelude.{MatchBool}
 use Rattle.std.specs.declared.option.Option.{Option}
 use Rattle.std.specs.Io.KnownBytes.{Appends}
-use Rattle.sy_base.specs.Outside.{CauseOf, RoseSince}
-use Rattle.sy_base.specs.Writing.{AppendsPrefix}
+use Rattle.sy_outside.specs.Outside.{CauseOf, RoseSince}
+use Rattle.sy_outside.specs.Writing.{AppendsPrefix}
 use Rattle.sy_base.specs.declared.refusal.Refusal.{Refusal}
 use Rattle.sy_core.specs.declared.deed.Deed.{Deed}
-use Rattle.sy_tree.specs.declared.contract.SpecTree.{SpecTree}
+use Rattle.sy_spec.specs.declared.contract.SpecTree.{SpecTree}
 use Rattle.sy_run.specs.Commands.{Command, Compile, Monitor, Unknown, ReadsInput}
 use Rattle.sy_run.specs.Machine.Stopping.{IsToldAs, is_read_stop}
 use Rattle.sy_run.specs.Machine.Stream.{HowStopped, refused, half_refused, not_refused, not_read, no_memory, IsReadingStatus, IsUsageStatus, IsWritingStatus, StopsWith, StreamCaused, StreamEnds, WriteCaused, WroteAllRead}

@@ -7,9 +7,9 @@ use Rattle.std.proofs.KnownBytes.{Appends-nil, Appends-trans}
 use Rattle.std.specs.declared.option.Option.{Option}
 use Rattle.std.specs.BTreeSet.{BTreeSet}
 use Rattle.std.specs.Io.KnownBytes.{Appends}
-use Rattle.sy_base.specs.Lines.{lines_of, whole_lines_of, onto_whole, has_newline}
-use Rattle.sy_base.specs.LineReaderState.{LineReaderState, new_line_reader}
-use Rattle.sy_base.specs.Writing.{AppendsPrefix, AppendsProperPrefix}
+use Rattle.sy_outside.specs.Lines.{lines_of, whole_lines_of, onto_whole, has_newline}
+use Rattle.sy_outside.specs.LineReaderState.{LineReaderState, new_line_reader}
+use Rattle.sy_outside.specs.Writing.{AppendsPrefix, AppendsProperPrefix}
 use Rattle.sy_core.specs.declared.deed.Deed.{Deed}
 use Rattle.sy_run.specs.Machine.Holding.{Holds}
 use Rattle.sy_run.specs.Output.{reply, output, is_refused}

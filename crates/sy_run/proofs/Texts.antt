@@ -10,11 +10,11 @@ use Rattle.sy_core.specs.declared.deed.Deed.{Deed}
 use Rattle.sy_lex.specs.declared.token.Token.{Token}
 use Rattle.sy_lex.specs.Tokens as lex
 use Rattle.sy_lex.specs.Tokens.{HasText, IsLexFault}
-use Rattle.sy_tree.specs.declared.contract.SpecTree.{SpecTree}
-use Rattle.sy_tree.specs.declared.binding.BindTree.{BindTree}
+use Rattle.sy_spec.specs.declared.contract.SpecTree.{SpecTree}
+use Rattle.sy_binding.specs.declared.tree.BindTree.{BindTree}
 use Rattle.sy_lex.specs.Lexemes.{Lexeme, lexemes_of}
-use Rattle.sy_parse.specs.Faults as faults
-use Rattle.sy_parse.specs.Faults.{IsSyntaxFault}
+use Rattle.sy_reader.specs.Faults as faults
+use Rattle.sy_reader.specs.Faults.{IsSyntaxFault}
 use Rattle.sy_run.specs.FirstPath.{due_date, start_date}
 use Rattle.sy_run.specs.Machine.Stopping.{IsToldAs, stop_of}
 use Rattle.sy_run.specs.Texts.{IsTree, no_tokens, no_tree, IsSpecIn, IsBindingIn, IsDeedIn, IsDeedDue, date_or_refusal, date_of_tree, deed_due}

@@ -9,16 +9,16 @@ use Rattle.sy_base.specs.declared.time.TimeUnit.TheVariants.{Day}
 use Rattle.sy_base.specs.Points.{IsDated}
 use Rattle.sy_time.specs.Date.{date_of}
 use Rattle.sy_core.specs.declared.deed.Deed.{Deed}
-use Rattle.sy_core.specs.declared.position.Form.TheVariants.{Obligation}
+use Rattle.sy_words.specs.declared.form.Form.TheVariants.{Obligation}
 use Rattle.sy_core.specs.declared.position.Goal.TheVariants.{Duty}
 use Rattle.sy_core.specs.declared.event.Ev.TheVariants.{Outer}
 use Rattle.sy_core.specs.declared.date_term.Base.TheVariants.{Fixed}
 use Rattle.sy_core.specs.declared.proposition.Prop.{Prop}
 use Rattle.sy_core.specs.declared.proposition.Prop.TheVariants.{Const, Before}
-use Rattle.sy_tree.specs.CanonicalText.{canonical_text}
-use Rattle.sy_tree.specs.declared.binding.BindTree.{BindTree}
-use Rattle.sy_tree.specs.declared.binding.GivenTree.{GivenTree}
-use Rattle.sy_tree.specs.declared.contract.SpecTree.{SpecTree}
+use Rattle.sy_print.specs.CanonicalText.{canonical_text}
+use Rattle.sy_binding.specs.declared.tree.BindTree.{BindTree}
+use Rattle.sy_binding.specs.declared.tree.GivenTree.{GivenTree}
+use Rattle.sy_spec.specs.declared.contract.SpecTree.{SpecTree}
 use Rattle.sy_lex.specs.declared.written.Written.{Written}
 use Rattle.sy_run.specs.declared.first_path.Entry.{Entry}
 use Rattle.sy_run.specs.declared.first_path.Entry.TheVariants.{Blank, Paid, Report}

@@ -1,9 +1,9 @@
 -- The outcome of a command in a world: the text that it writes, and how it ends.
 use Rattle.std.specs.Prelude.{◌≡◌, ◌⊎◌, ℕ, Bool, true, false, List, [], Option, Some, Result, Ok, Err, ⊤}
-use Rattle.sy_base.specs.Lines.{lines_of, whole_lines_of}
+use Rattle.sy_outside.specs.Lines.{lines_of, whole_lines_of}
 use Rattle.sy_core.specs.declared.deed.Deed.{Deed}
-use Rattle.sy_tree.specs.CanonicalText.{canonical_text}
-use Rattle.sy_tree.specs.declared.contract.SpecTree.{SpecTree}
+use Rattle.sy_print.specs.CanonicalText.{canonical_text}
+use Rattle.sy_spec.specs.declared.contract.SpecTree.{SpecTree}
 use Rattle.sy_run.specs.Commands.{Command, Compile, Monitor, Unknown, usage_line}
 use Rattle.sy_run.specs.Output.{output, is_refused}
 use Rattle.sy_run.specs.RefusalText.{refusal_text}

@@ -2,7 +2,7 @@
 -- it returns are that outcome's, unless a call outside fails or memory is wanting.
 use Rattle.std.specs.Prelude.{◌≡◌, ◌⊎◌, ℕ, List, [], ◌++◌, Option, Some, Ok, ⊤}
 use Rattle.std.specs.Io.KnownBytes.{Appends}
-use Rattle.sy_base.specs.Writing.{AppendsPrefix, AppendsProperPrefix}
+use Rattle.sy_outside.specs.Writing.{AppendsPrefix, AppendsProperPrefix}
 use Rattle.sy_core.specs.declared.deed.Deed.{Deed}
 use Rattle.sy_run.specs.Commands.{Command, Compile, Monitor, Unknown, ReadsInput}
 use Rattle.sy_run.specs.Outcomes.{End, Finished, Stopped, Missing, Misused, GivesDeed, IsAskedFor, IsOutcome, Outcome}

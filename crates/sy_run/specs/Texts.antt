@@ -8,11 +8,12 @@ use Rattle.sy_base.specs.declared.refusal.Refused.TheVariants as R
 use Rattle.sy_core.specs.declared.deed.Deed.{Deed}
 use Rattle.sy_lex.specs.declared.token.Token.{Token}
 use Rattle.sy_lex.specs.Tokens.{HasText, IsLexFault}
-use Rattle.sy_tree.specs.declared.contract.SpecTree.{SpecTree}
-use Rattle.sy_tree.specs.declared.binding.BindTree.{BindTree}
+use Rattle.sy_spec.specs.declared.contract.SpecTree.{SpecTree}
+use Rattle.sy_binding.specs.declared.tree.BindTree.{BindTree}
 use Rattle.sy_lex.specs.Lexemes.{Lexeme, lexemes_of}
-use Rattle.sy_tree.specs.Spelling.{SpellsSpec, SpellsBinding}
-use Rattle.sy_parse.specs.Faults.{IsSyntaxFault}
+use Rattle.sy_spec.specs.Spelling.{SpellsSpec}
+use Rattle.sy_binding.specs.Spelling.{SpellsBinding}
+use Rattle.sy_reader.specs.Faults.{IsSyntaxFault}
 use Rattle.sy_run.specs.FirstPath.{due_date, start_date, deed}
 use Rattle.sy_run.specs.RefusalText.{whole}
 use Rattle.sy_run.specs.declared.stop.Stop.{Stop}

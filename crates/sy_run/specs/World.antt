@@ -1,6 +1,6 @@
 -- The world outside a run, as contracts see it at one moment.
 use Rattle.std.specs.Prelude.{◌≡◌, ℕ, List, Option}
-use Rattle.sy_base.specs.Outside.{RoseSince}
+use Rattle.sy_outside.specs.Outside.{RoseSince}
 
 -- what is known of the files, the input and the output, and how many calls on each have failed
 pub record World : Type 0 where

@@ -9,8 +9,10 @@ use crate::files::read_spec;
 use crate::status::Status;
 use crate::stop::end;
 use std::alloc::Global;
-use sy_base::{Files, Sink, Text, write_all};
-use sy_tree::{SpecTree, print};
+use sy_base::Text;
+use sy_outside::{Files, Sink, write_all};
+use sy_print::print;
+use sy_spec::SpecTree;
 
 /// Writes the canonical text of a specification.
 fn write_canonical<W: Sink>(alloc: Global, tree: &SpecTree, out: &mut W) -> Status

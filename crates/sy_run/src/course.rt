@@ -14,7 +14,8 @@ use crate::entries::Entries;
 use std::alloc::Global;
 use sy_axioms::Plain;
 use sy_base::{List, Memory, Point};
-use sy_core::{Deed, Kind, Mark, Target};
+use sy_core::{Deed, Mark, Target};
+use sy_words::Kind;
 
 /// The evaluator after some points from start on, and the violations at them.
 #[derive(Drop)]

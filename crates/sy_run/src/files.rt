@@ -1,11 +1,12 @@
 //! The files of a run: the specification and the binding, and the deed that they give.
 ghost use Rattle.std.specs.Prelude.{◌≡◌, ◌<◌, ◌^◌, ℕ, List, length, IsTrue, IfOk, Some};
 ghost use Rattle.std.specs.declared.option.Option.{Option};
-ghost use Rattle.sy_base.specs.Outside.{CauseOf};
+ghost use Rattle.sy_outside.specs.Outside.{CauseOf};
 ghost use Rattle.sy_base.specs.declared.refusal.FileKind.TheVariants as kind;
 ghost use Rattle.sy_base.specs.Points.{IsDated};
 ghost use Rattle.sy_base.specs.declared.time.TimeUnit.TheVariants.{Day};
-ghost use Rattle.sy_tree.specs.Spelling.{SpellsBinding, SpellsSpec};
+ghost use Rattle.sy_binding.specs.Spelling.{SpellsBinding};
+ghost use Rattle.sy_spec.specs.Spelling.{SpellsSpec};
 ghost use Rattle.sy_run.specs.FirstPath as first;
 ghost use Rattle.sy_run.specs.FirstPath.{IsFirstDeed};
 ghost use Rattle.sy_run.specs.Machine.Stopping.{IsToldAs, NoReadStop, is_read_stop};
@@ -15,11 +16,12 @@ use crate::first_path::{deed, due_date, start_date};
 use crate::refusal::whole;
 use crate::stop::Stop;
 use std::alloc::Global;
-use sy_base::{FaultName, FileFault, FileKind, Files, Point, Text, read_file};
+use sy_base::{FaultName, FileKind, Point, Text};
+use sy_binding::{BindTree, binding};
 use sy_core::Deed;
 use sy_lex::tokens;
-use sy_parse::{binding, spec};
-use sy_tree::{BindTree, SpecTree};
+use sy_outside::{FileFault, Files, read_file};
+use sy_spec::{SpecTree, spec};
 
 // The bytes of a file.
 fn read_text<F: Files>(

@@ -7,9 +7,12 @@ ghost use Rattle.sy_run.specs.FirstPath as text;
 
 use std::alloc::Global;
 use sy_base::{List, Memory, Point, Text, TimeUnit};
-use sy_core::{Base, DateTerm, Deed, Ev, EventDecl, Form, Goal, Position, Prop};
+use sy_binding::BindTree;
+use sy_core::{Base, DateTerm, Deed, Ev, EventDecl, Goal, Position, Prop};
+use sy_print::print;
+use sy_spec::SpecTree;
 use sy_time::read_date;
-use sy_tree::{BindTree, SpecTree, print};
+use sy_words::Form;
 
 /// What a line of the log says.
 #[derive(Clone, Copy, Debug, PartialEq, Eq)]

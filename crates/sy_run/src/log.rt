@@ -1,7 +1,7 @@
 //! The lines of a log, and what is answered to each.
 ghost use Rattle.std.specs.Prelude.{◌≡◌, ◌≤◌, ◌+◌, ◌^◌, ℕ, List, IsTrue, IfOk, IfErr, Some, [], length, false};
 ghost use Rattle.std.specs.Option.{is_some};
-ghost use Rattle.sy_base.specs.Outside.{CauseOf};
+ghost use Rattle.sy_outside.specs.Outside.{CauseOf};
 ghost use Rattle.sy_base.specs.Points.{IsDated};
 ghost use Rattle.sy_core.specs.declared.happening.Happening.{Happening};
 ghost use Rattle.sy_run.specs.FirstPath.{IsFirstDeed, IsDatedEntry};
@@ -15,14 +15,15 @@ ghost use Rattle.sy_base.specs.declared.refusal.FileKind.TheVariants as kind;
 ghost use Rattle.sy_core.specs.Tables as tables;
 
 use crate::entries::Entries;
-use crate::stop::Stop;
 use crate::first_path::{Entry, read_line};
 use crate::refusal::of_line;
 use crate::report::report_text;
+use crate::stop::Stop;
 use crate::table::table_as_of;
 use std::alloc::Global;
-use sy_base::{FaultName, FileKind, Line, LineFault, LineReader, Memory, Point, Source, Text};
+use sy_base::{FaultName, FileKind, Memory, Point, Text};
 use sy_core::Deed;
+use sy_outside::{Line, LineFault, LineReader, Source};
 
 /// What was read of a log so far.
 #[derive(Drop)]

@@ -11,8 +11,9 @@ use crate::status::Status;
 use crate::stop::end;
 use crate::stream::stream;
 use std::alloc::Global;
-use sy_base::{Files, LineReader, Sink, Source, Text};
+use sy_base::Text;
 use sy_core::Deed;
+use sy_outside::{Files, LineReader, Sink, Source};
 
 /// Follows a deed along the log on the input.
 fn follow<S: Source, W: Sink>(alloc: Global, deed: &Deed, input: &mut S, out: &mut W) -> Status

@@ -8,8 +8,9 @@ ghost use Rattle.sy_run.specs.ReportText as text;
 
 use std::alloc::{AllocError, Global};
 use sy_base::{Memory, Point, Text, TimeUnit};
-use sy_core::{Deed, Form, Mark, Position, StateOf, Table, Verdict};
+use sy_core::{Deed, Mark, Position, StateOf, Table, Verdict};
 use sy_time::write_date;
+use sy_words::Form;
 
 // The word of a state.
 fn state_word(state: StateOf) -> &'static [u8]

@@ -9,7 +9,8 @@ ghost use Rattle.sy_run.specs.declared.stop.Stop.TheVariants.{Memory as OutOfMem
 use crate::refusal::refusal_text;
 use crate::status::Status;
 use std::alloc::Global;
-use sy_base::{Memory, Refusal, Refused, Sink, write_all};
+use sy_base::{Memory, Refusal, Refused};
+use sy_outside::{Sink, write_all};
 
 /// Why a run goes no further.
 #[derive(Debug, Drop)]

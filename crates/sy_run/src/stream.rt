@@ -1,7 +1,7 @@
 //! The lines of an input, answered one after the other.
 ghost use Rattle.std.specs.Prelude.{◌≡◌, ◌+◌, List, [], ℕ, IfNone, IfSome, Some};
 ghost use Rattle.std.specs.declared.option.Option.{Option};
-ghost use Rattle.sy_base.specs.LineReaderState.{new_line_reader};
+ghost use Rattle.sy_outside.specs.LineReaderState.{new_line_reader};
 ghost use Rattle.sy_run.specs.FirstPath.{IsFirstDeed};
 ghost use Rattle.sy_run.specs.Machine.Holding.{Holds};
 ghost use Rattle.sy_run.specs.Machine.Stream.{AfterLine, CausedIf, IsReadingStatus, IsReady, SoFar, StreamCaused, StreamEnds, WritesReply};
@@ -10,8 +10,9 @@ use crate::log::{Log, reply_next};
 use crate::status::Status;
 use crate::stop::end;
 use std::alloc::Global;
-use sy_base::{LineReader, Sink, Source, Text, write_all};
+use sy_base::Text;
 use sy_core::Deed;
+use sy_outside::{LineReader, Sink, Source, write_all};
 
 // Writes what is answered to a line. It answers a status where the stream ends.
 fn write_reply<W: Sink>(text: &Text, out: &mut W) -> Option<Status>

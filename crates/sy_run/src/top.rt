@@ -9,7 +9,8 @@ use crate::monitor::monitor;
 use crate::status::Status;
 use std::alloc::Global;
 use std::sync::ledger::Ledger;
-use sy_base::{Files, Sink, Source, Steps, Text, write_all};
+use sy_base::Text;
+use sy_outside::{Files, Sink, Source, Steps, write_all};
 
 /// Writes the line that tells how the program is used.
 fn usage<W: Sink>(out: &mut W) -> Status

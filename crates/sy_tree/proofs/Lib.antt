@@ -1,13 +1,4 @@
-pub mod PrintedWords
-pub mod BlankBehind
-pub mod PrintedLexes
-pub mod Prints
-pub mod PrintsRules
-pub mod PrintsTerms
-pub mod PrintsFirst
-pub mod PropositionFolds
-pub mod PrintsPropositions
-pub mod PrintsLevels
-pub mod PrintsSpecifications
-pub mod PrintedSpelling
-pub mod ReadingBack
+pub mod AgreeEvents
+pub mod AgreePropositions
+pub mod AgreeTerms
+pub mod Chains

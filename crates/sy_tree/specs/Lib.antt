@@ -1,9 +1,3 @@
-pub mod Grammar
-pub mod Terms
+pub mod Machine
 pub mod Propositions
-pub mod Specifications
-pub mod Bindings
-pub mod Spelling
-pub mod CanonicalText
-pub mod Equality
-pub mod ReadingBack
+pub mod Terms

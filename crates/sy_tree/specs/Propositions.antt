@@ -12,7 +12,7 @@ use Rattle.sy_tree.specs.declared.proposition.PropTree.TheViews.{out-PropTree}
 use Rattle.sy_tree.specs.declared.proposition.PropTree.TheOpen as L
 use Rattle.sy_tree.specs.declared.proposition.EventTree.{EventTree}
 use Rattle.sy_tree.specs.declared.date.DateTree.{DateTree}
-use Rattle.sy_tree.specs.Grammar.{Rule, spelled, ◌>>=◌, ◌or◌, keyword, sign, ahead, many, between, before}
+use Rattle.sy_reader.specs.Grammar.{Rule, spelled, ◌>>=◌, ◌or◌, keyword, sign, ahead, many, between, before}
 use Rattle.sy_tree.specs.Terms.{term, cmp, rhs, event, situation, date}
 
 -- a first token without brackets round the proposition

@@ -3,17 +3,17 @@ use Rattle.std.specs.Prelude.{true, false, []}
 use Rattle.sy_base.specs.declared.refusal.Place.{Place}
 use Rattle.sy_base.specs.declared.time.Measure.{Measure}
 use Rattle.sy_base.specs.declared.time.Measure.TheVariants as M
-use Rattle.sy_core.specs.declared.value.Cmp.{Cmp}
-use Rattle.sy_core.specs.declared.value.Cmp.TheVariants as C
-use Rattle.sy_core.specs.declared.kind.Kind.{Kind}
-use Rattle.sy_core.specs.declared.kind.Kind.TheVariants as E
+use Rattle.sy_words.specs.declared.comparison.Cmp.{Cmp}
+use Rattle.sy_words.specs.declared.comparison.Cmp.TheVariants as C
+use Rattle.sy_words.specs.declared.kind.Kind.{Kind}
+use Rattle.sy_words.specs.declared.kind.Kind.TheVariants as E
 use Rattle.sy_lex.specs.declared.keyword.Keyword.{Keyword}
 use Rattle.sy_lex.specs.declared.keyword.Keyword.TheVariants as K
 use Rattle.sy_lex.specs.declared.sign.Sign.{Sign}
 use Rattle.sy_lex.specs.declared.sign.Sign.TheVariants.{Dot, Open, Close, OpenBracket, CloseBracket, Equal, NotEqual, Less, AtMost, Greater, AtLeast, Plus, Minus, Times}
 use Rattle.sy_lex.specs.declared.token.TokenKind.TheVariants as S
-use Rattle.sy_tree.specs.declared.position.TargetTree.{TargetTree}
-use Rattle.sy_tree.specs.declared.position.TargetTree.TheVariants as Target
+use Rattle.sy_tree.specs.declared.target.TargetTree.{TargetTree}
+use Rattle.sy_tree.specs.declared.target.TargetTree.TheVariants as Target
 use Rattle.sy_tree.specs.declared.term.RhsTree.{RhsTree}
 use Rattle.sy_tree.specs.declared.term.RhsTree.TheVariants as Rhs
 use Rattle.sy_tree.specs.declared.term.TermTree.{TermTree}
@@ -36,7 +36,7 @@ use Rattle.sy_tree.specs.declared.proposition.EventTree.TheVariants as Event
 use Rattle.sy_tree.specs.declared.proposition.GuardTree.{GuardTree}
 use Rattle.sy_tree.specs.declared.proposition.SituationTree.{SituationTree}
 use Rattle.sy_lex.specs.Lexemes.{written}
-use Rattle.sy_tree.specs.Grammar.{Rule, spelled, ◌>>=◌, ◌or◌, lexeme, token, keyword, sign, many, up_to, behind, between, listed}
+use Rattle.sy_reader.specs.Grammar.{Rule, spelled, ◌>>=◌, ◌or◌, lexeme, token, keyword, sign, many, up_to, behind, between, listed}
 
 -- path = NAME [ "." NAME [ "." NAME ] ]
 abbrev pub path : Rule PathTree

@@ -1,5 +1,6 @@
-use crate::{EventTree, PathTree, Written};
+use crate::{EventTree, PathTree};
 use sy_base::{List, Measure, Place};
+use sy_lex::Written;
 
 /// A date term: a moment, and at most eight durations that are added to it from left to right.
 #[derive(Debug, Drop)]

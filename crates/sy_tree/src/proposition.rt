@@ -1,9 +1,11 @@
 ghost use Rattle.std.specs.Prelude.{◌≡◌};
 ghost use Rattle.sy_tree.specs.Propositions as grammar;
 
-use crate::{DateTree, RhsTree, TargetTree, TermTree, Written};
+use crate::{DateTree, RhsTree, TargetTree, TermTree};
+use sqlite_items::{Boxed, Items};
 use sy_base::{List, Place};
-use sy_core::{Boxed, Cmp, Items, Kind};
+use sy_lex::Written;
+use sy_words::{Cmp, Kind};
 
 /// The first token of a proposition, without the brackets round it; and where the outermost of
 /// these stands, if there are any.

@@ -1,5 +1,5 @@
-use crate::Written;
 use sy_base::{List, Place};
+use sy_lex::Written;
 
 /// What may stand on the right of a comparison, and what an attribute may be given.
 #[derive(Debug, Drop)]

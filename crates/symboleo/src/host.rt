@@ -5,7 +5,8 @@ ghost use Rattle.std.specs.Prelude.{◌≤◌, length, true, None, IfSome};
 use std::io::{Read, Seek, SeekFrom, Write};
 use std::rt::Files as Host;
 use std::{fs, str};
-use sy_base::{Failed, Files, Sink, Source, Text};
+use sy_base::Text;
+use sy_outside::{Failed, Files, Sink, Source};
 
 /// The files of the system.
 #[derive(Drop)]

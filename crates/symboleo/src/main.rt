@@ -14,7 +14,8 @@ use std::marker::Brand;
 use std::process::ExitCode;
 use std::rt::Env;
 use std::sync::ledger::{Blank, Ledger};
-use sy_base::{Files, List, Memory, Sink, Source, Steps, Text};
+use sy_base::{List, Memory, Text};
+use sy_outside::{Files, Sink, Source, Steps};
 use sy_run::{Status, run};
 
 /// The greatest length of a word in bytes: the system passes no longer one.

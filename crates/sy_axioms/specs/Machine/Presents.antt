@@ -1,6 +1,6 @@
 -- What the definitions give at the point now, by the points that are kept.
 use Rattle.std.specs.Prelude.{ℕ, Bool, List, map}
-use Rattle.sy_core.specs.declared.kind.Kind.{Kind}
+use Rattle.sy_words.specs.declared.kind.Kind.{Kind}
 use Rattle.sy_core.specs.declared.table.Verdict.{Verdict}
 use Rattle.sy_core.specs.declared.proposition.Prop.{Prop}
 use Rattle.sy_core.specs.declared.proposition.Prop.TheOpen.{Prop-F}

@@ -1,10 +1,10 @@
 -- What a run answers to a line of its log, and to the next line of its input.
 use Rattle.std.specs.Prelude.{◌≡◌, ℕ, ℤ, ⊤, true, false, List, [], ◌∷◌, ◌++◌, ◌+◌, ◌^◌, ◌≤◌, Option, None, Some, Result, Ok, Err, IsTrue}
 use Rattle.std.specs.BTreeSet.{BTreeSet}
-use Rattle.sy_base.specs.Lines.{lines_of, has_newline}
-use Rattle.sy_base.specs.LineReaderState.{LineReaderState}
-use Rattle.sy_base.specs.declared.lines.LineFault.{LineFault}
-use Rattle.sy_base.specs.declared.lines.LineFault.TheVariants as F
+use Rattle.sy_outside.specs.Lines.{lines_of, has_newline}
+use Rattle.sy_outside.specs.LineReaderState.{LineReaderState}
+use Rattle.sy_outside.specs.declared.lines.LineFault.{LineFault}
+use Rattle.sy_outside.specs.declared.lines.LineFault.TheVariants as F
 use Rattle.sy_base.specs.declared.refusal.FileKind.TheVariants.{Log}
 use Rattle.sy_base.specs.declared.refusal.FaultName.TheVariants.{TooLong, TooManyLines}
 use Rattle.sy_core.specs.declared.deed.Deed.{Deed}

@@ -2,10 +2,10 @@
 use Rattle.std.specs.Prelude.{◌≡◌, ℕ, ℤ, ◌+◌, ◌^◌, ◌≤◌, false, List, [], ◌++◌, Option, None, Some, Ok, IsTrue, ⊤, Result}
 use Rattle.std.specs.BTreeSet.{BTreeSet}
 use Rattle.std.specs.Io.KnownBytes.{Appends}
-use Rattle.sy_base.specs.Lines.{lines_of, whole_lines_of}
-use Rattle.sy_base.specs.Outside.{RoseSince}
-use Rattle.sy_base.specs.LineReaderState.{LineReaderState}
-use Rattle.sy_base.specs.Writing.{AppendsProperPrefix}
+use Rattle.sy_outside.specs.Lines.{lines_of, whole_lines_of}
+use Rattle.sy_outside.specs.Outside.{RoseSince}
+use Rattle.sy_outside.specs.LineReaderState.{LineReaderState}
+use Rattle.sy_outside.specs.Writing.{AppendsProperPrefix}
 use Rattle.sy_base.specs.declared.refusal.Refusal.{Refusal}
 use Rattle.sy_core.specs.declared.deed.Deed.{Deed}
 use Rattle.sy_core.specs.declared.happening.Happening.{Happening}

@@ -1,5 +1,5 @@
 use Rattle.std.proofs.Common.{refl}
-use Rattle.sy_core.specs.declared.kind.Kind.TheVariants.{Exerted}
+use Rattle.sy_words.specs.declared.kind.Kind.TheVariants.{Exerted}
 use Rattle.sy_core.specs.declared.kind.Target.TheVariants as T
 use Rattle.sy_core.specs.Conditions.{is_act, happened}
 use Rattle.sy_axioms.specs.Machine.Presents.{moment_now}

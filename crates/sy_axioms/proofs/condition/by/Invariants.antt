@@ -1,6 +1,6 @@
 use Rattle.std.proofs.Common.{◌≡◌, ◌&&◌, drop}
 use Rattle.std.specs.List.{list_any, enumerate_from}
-use Rattle.sy_core.specs.declared.kind.Kind.TheVariants.{Exerted}
+use Rattle.sy_words.specs.declared.kind.Kind.TheVariants.{Exerted}
 use Rattle.sy_core.specs.declared.kind.Target.TheVariants as T
 use Rattle.sy_core.specs.Conditions.{is_act, happened, by}
 use Rattle.sy_axioms.specs.Machine.Presents.{moment_now}

@@ -1,6 +1,6 @@
 use Rattle.std.proofs.Common.{◌≡◌, ℕ, ◌+◌, ◌<◌, Bool, List, length, drop, get_or, sym, ◌∙◌, ap, add-one, drop-cons, if◌then◌else◌}
-use Rattle.sy_core.specs.declared.kind.Kind.{Kind}
-use Rattle.sy_core.specs.declared.position.Form.{Form}
+use Rattle.sy_words.specs.declared.kind.Kind.{Kind}
+use Rattle.sy_words.specs.declared.form.Form.{Form}
 use Rattle.sy_core.specs.declared.state.StateOf.{StateOf}
 use Rattle.sy_core.specs.States.{state_by, last_state}
 use Rattle.sy_axioms.specs.Machine.KeptMoments.{has}

@@ -2,9 +2,9 @@ use Rattle.std.proofs.Common.{◌≡◌, ◌+◌, ◌<◌, ◌≤◌, length, ta
 use Rattle.std.proofs.lemmas.List.{take_rest, length-take-le, length-drop}
 use Rattle.std.proofs.lemmas.Bool.Decides.{nat_tests}
 use Rattle.sy_lex.specs.declared.step.Step.TheVariants as S
-use Rattle.sy_lex.specs.Room.{HasRoom}
+use Rattle.sy_lex.specs.Machine.Room.{HasRoom}
 use Rattle.sy_lex.specs.Tokens.{spot_after}
-use Rattle.sy_lex.specs.Cutting.{cut_at, cut_of}
+use Rattle.sy_lex.specs.Machine.Cutting.{cut_at, cut_of}
 use Rattle.sy_lex.proofs.Steps.{with_front, turn, turn_token, cut_end}
 use Rattle.sy_lex.proofs.cut.cut.Goals as goal
 use Rattle.sy_lex.proofs.cut.cut.Goals.{in-Token+in_ok-push-in-Token, in-Skip}

@@ -1,6 +1,6 @@
 use Rattle.std.proofs.Common.{◌≡◌, length}
-use Rattle.sy_lex.specs.Room.{HasRoom}
-use Rattle.sy_lex.specs.Cutting.{cut_at, cut_of}
+use Rattle.sy_lex.specs.Machine.Room.{HasRoom}
+use Rattle.sy_lex.specs.Machine.Cutting.{cut_at, cut_of}
 use Rattle.sy_lex.proofs.Steps.{with_front}
 use Rattle.sy_lex.proofs.cut.cut.Given as goal
 

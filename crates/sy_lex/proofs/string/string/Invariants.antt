@@ -1,5 +1,5 @@
 use Rattle.std.proofs.Common.{◌≡◌, ◌+◌, length}
-use Rattle.sy_lex.specs.Cutting.{string_step}
+use Rattle.sy_lex.specs.Machine.Cutting.{string_step}
 use Rattle.sy_lex.proofs.string.string.Given as goal
 
 abbrev pub invariant-content : goal.invariant-content

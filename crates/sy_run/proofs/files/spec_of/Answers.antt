@@ -3,7 +3,7 @@ use Rattle.std.proofs.lemmas.Result.{err_from_is_err_and}
 use Rattle.sy_base.specs.declared.refusal.FileKind.TheVariants.{Spec}
 use Rattle.sy_lex.specs.declared.token.Token.{Token}
 use Rattle.sy_lex.specs.Tokens.{HasText}
-use Rattle.sy_tree.specs.Spelling.{SpellsSpec}
+use Rattle.sy_spec.specs.Spelling.{SpellsSpec}
 use Rattle.sy_run.specs.Texts.{one_tree}
 use Rattle.sy_run.proofs.Texts.{not_cut, not_spelled}
 use Rattle.sy_run.proofs.files.spec_of.Goals as goal

@@ -1,9 +1,9 @@
 use Rattle.std.proofs.Common.{◌∙◌, ap, subst, Some, Ok, Err, Result}
 use Rattle.std.specs.Option.{is_some}
 use Rattle.std.specs.declared.option.Option.{Option}
-use Rattle.sy_base.specs.LineReading.{Next, CutsLines}
-use Rattle.sy_base.specs.declared.lines.Line.{Line}
-use Rattle.sy_base.specs.declared.lines.LineFault.{LineFault}
+use Rattle.sy_outside.specs.LineReading.{Next, CutsLines}
+use Rattle.sy_outside.specs.declared.lines.Line.{Line}
+use Rattle.sy_outside.specs.declared.lines.LineFault.{LineFault}
 use Rattle.sy_run.proofs.Replying.{after_of, fault_told, text_told, stop_told}
 use Rattle.sy_run.proofs.log.reply_next.Goals as goal
 

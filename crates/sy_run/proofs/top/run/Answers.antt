@@ -17,14 +17,14 @@ returns-in_default g c =
     let unknown : command_of c.args.words.now ≡ Unknown = elim c.in_default.branch [
       | in_default-via-then-words-lt2 w ↦ few_words c.args.words.now (grind arith)
       | in_default-via-in-len2+else-eq w ↦
-        no_compile_words c.args.words.now w.form-item.result w.spec-item.result
-        (two_words c.args.words.now w.form-item.result w.spec-item.result w.in-len2.len_at_least w.in-len2.len_below w.form-item.is w.spec-item.is)
-        (is_word w.eq.result _ w.bytes.result.now w.as_slice.result.now w.form-item.result (codes "compile") w.eq.ensures w.if-eq.false w.bytes.ensures w.as_slice.ensures)
+          no_compile_words c.args.words.now w.form-item.result w.spec-item.result
+          (two_words c.args.words.now w.form-item.result w.spec-item.result w.in-len2.len_at_least w.in-len2.len_below w.form-item.is w.spec-item.is)
+          (is_word w.eq.result _ w.bytes.result.now w.as_slice.result.now w.form-item.result (codes "compile") w.eq.ensures w.if-eq.false w.bytes.ensures w.as_slice.ensures)
       | in_default-via-in-len3+else-eq-2 w ↦
-        no_monitor_words c.args.words.now w.form-item-then-words-lt4.result w.spec-item-then-words-lt4.result w.bind-item.result
-        (three_words c.args.words.now w.form-item-then-words-lt4.result w.spec-item-then-words-lt4.result w.bind-item.result w.in-len3.len_at_least w.in-len3.len_below w.form-item-then-words-lt4.is w.spec-item-then-words-lt4.is w.bind-item.is)
-        (is_word w.eq-then-words-lt4.result _ w.bytes-then-words-lt4.result.now w.as_slice-then-words-lt4.result.now w.form-item-then-words-lt4.result (codes "monitor") w.eq-then-words-lt4.ensures w.if-eq-2.false
-        w.bytes-then-words-lt4.ensures w.as_slice-then-words-lt4.ensures)
+          no_monitor_words c.args.words.now w.form-item-then-words-lt4.result w.spec-item-then-words-lt4.result w.bind-item.result
+          (three_words c.args.words.now w.form-item-then-words-lt4.result w.spec-item-then-words-lt4.result w.bind-item.result w.in-len3.len_at_least w.in-len3.len_below w.form-item-then-words-lt4.is w.spec-item-then-words-lt4.is w.bind-item.is)
+          (is_word w.eq-then-words-lt4.result _ w.bytes-then-words-lt4.result.now w.as_slice-then-words-lt4.result.now w.form-item-then-words-lt4.result (codes "monitor") w.eq-then-words-lt4.ensures w.if-eq-2.false
+          w.bytes-then-words-lt4.ensures w.as_slice-then-words-lt4.ensures)
       | in_default-via-else-words-lt2+else-words-lt3+else-words-lt4 w ↦ many_words c.args.words.now (grind arith)
     ] in
     rw unknown (usage_run _ _ c.usage.result c.usage.ensures.ends c.usage.ensures.status c.usage.ensures.cause refl (record { left = refl; faults = refl }))

@@ -1,0 +1,2 @@
+pub mod AgreeBindings
+pub mod Agreeing

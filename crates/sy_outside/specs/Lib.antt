@@ -1,0 +1,9 @@
+pub mod FileReading
+pub mod LineReaderState
+pub mod LineReading
+pub mod Lines
+pub mod Machine
+pub mod Outside
+pub mod Planned
+pub mod Sure
+pub mod Writing

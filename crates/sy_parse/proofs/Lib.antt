@@ -1,9 +1,0 @@
-pub mod Chains
-pub mod AgreeTerms
-pub mod AgreeEvents
-pub mod AgreePropositions
-pub mod AgreeLines
-pub mod AgreeSpecifications
-pub mod AgreeBindings
-pub mod Agreeing
-pub mod Answering

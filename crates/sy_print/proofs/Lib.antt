@@ -1,0 +1,13 @@
+pub mod BlankBehind
+pub mod PrintedLexes
+pub mod PrintedSpelling
+pub mod PrintedWords
+pub mod Prints
+pub mod PrintsFirst
+pub mod PrintsLevels
+pub mod PrintsPropositions
+pub mod PrintsRules
+pub mod PrintsSpecifications
+pub mod PrintsTerms
+pub mod PropositionFolds
+pub mod ReadingBack

@@ -1,0 +1,8 @@
+use Rattle.std.proofs.Common.{◌≡◌, ◌++◌, take}
+use Rattle.std.specs.List.{flat_map}
+use Rattle.sy_print.specs.CanonicalText.{sign}
+use Rattle.sy_print.proofs.canonical.writer.Writer.each_behind.Given as goal
+
+abbrev pub invariant-item : goal.invariant-item
+invariant-item g l =
+    l.self ≡ l.initial.self ++ flat_map (λ x. sign l.sign ++ g.T.Printed.text x) (take l.item-index l.items)

@@ -1,0 +1,6 @@
+//! The canonical text of a specification.
+#![tactic(auto)]
+
+mod canonical;
+
+pub use canonical::print;

@@ -1,0 +1,3 @@
+pub mod AgreeLines
+pub mod AgreeSpecifications
+pub mod Agreeing

@@ -1,0 +1,3 @@
+mod contract;
+mod domain;
+mod positions;

@@ -1,5 +1,0 @@
-use Rattle.sy_tree.proofs.ReadingBack.{read_back}
-use Rattle.sy_tree.proofs.canonical.print.Goals as goal
-
-pub returns-clause-read_back : goal.returns-clause-read_back
-returns-clause-read_back c = λ spelled. read_back c.args.tree.now c.written_out.result c.written_out.ensures spelled

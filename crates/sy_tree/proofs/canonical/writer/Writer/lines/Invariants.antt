@@ -1,6 +1,0 @@
-use Rattle.std.proofs.Common.{◌≡◌, ◌++◌, take}
-use Rattle.sy_tree.specs.CanonicalText.{lines}
-use Rattle.sy_tree.proofs.canonical.writer.Writer.lines.Given as goal
-
-abbrev pub invariant-item : goal.invariant-item
-invariant-item g l = l.self ≡ l.initial.self ++ lines g.T.Printed.text (take l.item-index l.items)

@@ -1,0 +1,2 @@
+pub mod ReadingPropositions
+pub mod ReadingTerms

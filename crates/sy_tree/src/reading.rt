@@ -1,0 +1,4 @@
+mod dates;
+mod events;
+mod propositions;
+mod terms;
