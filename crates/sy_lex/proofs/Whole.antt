@@ -1,6 +1,6 @@
 -- A text is cut into the tokens that it has, and into no others.
-use Rattle.std.proofs.Common.{◌≡◌, ℕ, zero, suc, ◌+◌, ◌<◌, ◌≤◌, List, [], ◌∷◌, length, take, drop, Result, Ok, Err, refl, sym, ap, subst, ◌∙◌, arith}
-use Rattle.std.specs.Prelude.{IfOk, MatchResult, IsErrAnd}
+use Rattle.std.proofs.Common.{◌≡◌, ℕ, zero, suc, ◌+◌, ◌-◌, ◌<◌, ◌≤◌, List, [], ◌∷◌, length, take, drop, Result, Ok, Err, refl, sym, ap, subst, ◌∙◌, arith}
+use Rattle.std.specs.Prelude.{IfErr, IfOk, MatchResult, IsErrAnd}
 use Rattle.std.proofs.lemmas.List.{length-drop}
 use Rattle.std.proofs.lemmas.List.Sums.{prefix_len-le-length}
 use Rattle.sy_base.specs.declared.refusal.FileKind.{FileKind}
@@ -15,11 +15,12 @@ use Rattle.sy_lex.specs.declared.step.Step.{Step}
 use Rattle.sy_lex.specs.declared.step.Step.TheVariants as S
 use Rattle.sy_lex.specs.Bytes.{is_comment_byte}
 use Rattle.sy_lex.specs.Tokens as g
-use Rattle.sy_lex.specs.Tokens.{IsFirst, Lexes, HasText, IsReadAs, comment_length, first_spot, next_spot, spot_after, token_at}
-use Rattle.sy_lex.specs.Machine.Cutting.{step_at, Moves, Cut, with_first, cut_at, cut_of, Gives, refused_as}
+use Rattle.sy_lex.specs.Tokens.{IsFirst, IsLexFault, Lexes, HasText, IsReadAs, comment_length, first_spot, next_spot, spot_after, token_at}
+use Rattle.sy_lex.specs.Machine.Cutting.{step_at, Moves, Cut, with_first, taken, cut_at, cut_of, Gives, refused_as}
 use Rattle.sy_lex.proofs.Begins as c
 use Rattle.sy_lex.proofs.Begins.{blank_class, step_by_class}
 use Rattle.sy_lex.proofs.Firsts.{first_class, first_step}
+use Rattle.sy_lex.proofs.Spots.{Counts, next_counts, spot_counts}
 use Rattle.sy_lex.proofs.Stands.{Stands, step_stands}
 use Rattle.sy_lex.proofs.Steps.{one_step}
 
@@ -120,3 +121,41 @@ pub at_most_one : (tokens others : List Token) (source : List ℕ) → HasText t
     → tokens ≡ others
 at_most_one tokens others source text text' =
     same_tokens tokens others (cut_of source) (complete first_spot source tokens text) (complete first_spot source others text')
+
+abbrev bad : Place → Cut
+bad place = Err place
+
+-- where a text can't be cut
+abbrev IsCounted : Place → Type 0
+IsCounted place = (1 ≤ place.line) × (1 ≤ place.column)
+
+with_first_err : (token : Token) (cut : Cut) (place : Place) → with_first token cut ≡ Err place → cut ≡ Err place
+with_first_err token (Ok tokens) place e = absurd cc
+with_first_err token (Err other) place e = e
+
+same_place : (one other : Place) → bad one ≡ bad other → one ≡ other
+same_place one other e = cc
+
+taken_counts : (at : Spot) (bytes : List ℕ) (step : Step) (later : ℕ → Cut) → ((k : ℕ) (place : Place) → later k ≡ Err place → IsCounted place)
+    → (place : Place) → Counts at → taken at bytes step later ≡ Err place → IsCounted place
+taken_counts at bytes (S.Token kind n) later counted place counts e =
+    counted (n - 1) place (with_first_err (token_at kind n at) (later (n - 1)) place e)
+taken_counts at bytes (S.Skip n) later counted place counts e = counted (n - 1) place e
+taken_counts at bytes (S.Bad n) later counted place counts e =
+    subst IsCounted (same_place (spot_after at (take n bytes)).place place e) (spot_counts at (take n bytes) counts)
+
+cut_counts : (skip : ℕ) (at : Spot) (bytes : List ℕ) (place : Place) → Counts at → cut_at skip at bytes ≡ Err place → IsCounted place
+unfolding cut_at
+cut_counts skip at [] place counts e = absurd cc
+cut_counts (suc skip) at (b ∷ bytes) place counts e = cut_counts skip (next_spot at b) bytes place (next_counts at b counts) e
+cut_counts zero at (b ∷ bytes) place counts e =
+    taken_counts at (b ∷ bytes) (step_at (b ∷ bytes)) (λ k. cut_at k (next_spot at b) bytes)
+    (λ k other e'. cut_counts k (next_spot at b) bytes other (next_counts at b counts) e') place counts e
+
+pub is_refused : (file : FileKind) (read : Result (List Token) LexFault) (answer : Result (List Token) Refused) (source : List ℕ)
+    → Answers file read answer → Gives read (cut_of source) → IfErr answer (IsLexFault file)
+is_refused file (Ok tokens) answer source answers cut = rw answers tt
+is_refused file (Err fault) (Ok tokens) source answers cut = absurd answers
+is_refused file (Err F.Memory) (Err refused) source answers cut = rw answers tt
+is_refused file (Err (F.At place)) (Err refused) source answers cut =
+    rw answers (refl, refl, cut_counts 0 first_spot source place (omega arith, omega arith) cut, refl)

@@ -1,5 +1,5 @@
 -- The tokens of a text.
-use Rattle.std.specs.Prelude.{ℕ, ◌≡◌, ◌+◌, ◌<◌, ◌≤◌, true, if◌then◌else◌, List, [], ◌∷◌, length, take, drop, slice_index, Result, Ok, Err, IsSome}
+use Rattle.std.specs.Prelude.{ℕ, ◌≡◌, ◌+◌, ◌<◌, ◌≤◌, true, if◌then◌else◌, List, [], ◌∷◌, length, take, drop, slice_index, Option, None, Some, Result, Ok, Err}
 use Rattle.std.specs.List.{prefix_len}
 use Rattle.sy_base.specs.declared.refusal.FileKind.{FileKind}
 use Rattle.sy_base.specs.declared.refusal.Place.{Place}
@@ -79,8 +79,13 @@ IsReadAs (Ok found) tokens = found ≡ tokens
 IsReadAs (Err R.Memory) tokens = Unit {0}
 IsReadAs (Err (R.Refusal refusal)) tokens = ⊥
 
+-- a place in a text: lines and columns are counted from 1
+abbrev pub IsInText : Option Place → Type 0
+IsInText None = ⊥
+IsInText (Some place) = (1 ≤ place.line) × (1 ≤ place.column)
+
 -- how a text without tokens is refused: as LexFault at some place, without words
 abbrev pub IsLexFault : FileKind → Refused → Type 0
 IsLexFault file R.Memory = Unit {0}
 IsLexFault file (R.Refusal refusal) =
-    (refusal.file ≡ file) × (refusal.name ≡ LexFault) × IsSome refusal.place × (refusal.words ≡ [])
+    (refusal.file ≡ file) × (refusal.name ≡ LexFault) × IsInText refusal.place × (refusal.words ≡ [])

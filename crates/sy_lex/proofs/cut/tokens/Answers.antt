@@ -1,5 +1,5 @@
 use Rattle.std.proofs.Common.{rules}
-use Rattle.sy_lex.proofs.Whole.{Answers, is_found, is_read, at_most_one}
+use Rattle.sy_lex.proofs.Whole.{Answers, is_found, is_read, is_refused, at_most_one}
 use Rattle.sy_lex.proofs.cut.tokens.Goals as goal
 
 answered : (c : goal.After-map_err) → Answers c.args.file c.cut.result c.map_err.result
@@ -13,3 +13,6 @@ returns-clause-only c = is_read c.args.file c.cut.result c.map_err.result c.args
 
 pub returns-clause-one : goal.returns-clause-one
 returns-clause-one c = λ tokens others. at_most_one tokens others c.args.bytes.now
+
+pub returns-clause-refusal : goal.returns-clause-refusal
+returns-clause-refusal c = is_refused c.args.file c.cut.result c.map_err.result c.args.bytes.now (answered c) c.cut.ensures
