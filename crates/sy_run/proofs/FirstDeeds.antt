@@ -1,5 +1,6 @@
 -- What holds of the deeds of the first path, and of a narrative of payments.
 use Rattle.std.proofs.Common.{◌≡◌, ℕ, zero, suc, ◌+◌, ℤ, pos, ◌+ℤ◌, int_le, int_eq, Bool, true, false, cond, not, ◌&&◌, ◌||◌, List, [], ◌∷◌, ◌++◌, refl, sym, ◌∙◌, ap, subst, arith, inl, inr}
+use Rattle.std.specs.List.{Contains}
 use Rattle.std.specs.List.{list_any}
 use Rattle.std.proofs.lemmas.Int.{ints}
 use Rattle.std.proofs.Math.Bool.{and-false}
@@ -19,7 +20,7 @@ use Rattle.sy_core.specs.declared.happening.Happening.{Happening}
 use Rattle.sy_core.specs.Chronicle.{exerts, at_point, chronicle, moment_at}
 use Rattle.sy_core.specs.Moments.{Moment}
 use Rattle.sy_core.specs.Values.{is_dated}
-use Rattle.std.specs.List.{Contains}
+use Rattle.sy_core.proofs.Members.{Among, contained}
 use Rattle.sy_core.specs.Soundness.{IsSound, is_sound_step, is_sound_prop}
 use Rattle.sy_core.specs.Tables.{is_void, marks, marks_at}
 use Rattle.sy_axioms.proofs.Members.{any_of_kept}
@@ -62,7 +63,7 @@ pub first_has_no_posts : (d : Deed) → IsFirstDeed d → d.posts ≡ []
 first_has_no_posts d first = ap (λ (x : Deed). x.posts) first.is
 
 -- no payment exerts a power
-none_exerts : (i : ℕ) (kept : Happening → Bool) (noted : List Happening) → ((h : Happening) → Contains noted h → h ≡ payment h.point)
+none_exerts : (i : ℕ) (kept : Happening → Bool) (noted : List Happening) → ((h : Happening) → Among noted h → h ≡ payment h.point)
     → list_any (λ (h : Happening). kept h && exerts i h.what) noted ≡ false
 none_exerts i kept [] paid = refl
 none_exerts i kept (h ∷ noted) paid =
@@ -72,7 +73,7 @@ none_exerts i kept (h ∷ noted) paid =
 module _ (noted : List Happening) (paid : (h : Happening) → Contains noted h → h ≡ payment h.point) where
   none_asked : (point : ℤ) (i : ℕ) → list_any (exerts i) (at_point noted point) ≡ false
   none_asked point i =
-      any_of_kept (λ (h : Happening). h.what) (λ h. int_eq h.point point) (exerts i) noted ∙ none_exerts i (λ h. int_eq h.point point) noted paid
+      any_of_kept (λ (h : Happening). h.what) (λ h. int_eq h.point point) (exerts i) noted ∙ none_exerts i (λ h. int_eq h.point point) noted (λ h a. paid h (contained noted h a))
 
   none_marked : (m : Moment) → ((i : ℕ) → m.asked i ≡ false) → (i : ℕ) (ps : List Position) → marks_at is_void m i ps ≡ []
   none_marked m none i [] = refl

@@ -1,5 +1,6 @@
 pub mod AllNoted
 pub mod Answering
+pub mod Exactly
 pub mod FirstDeeds
 pub mod Fitting
 pub mod Marking

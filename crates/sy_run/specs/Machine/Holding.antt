@@ -1,9 +1,9 @@
 -- When a set of points holds the payments that were noted.
 use Rattle.std.specs.Prelude.{◌≡◌, ℤ, List, [], ◌∷◌, IsTrue, if◌then◌else◌}
+use Rattle.std.specs.List.{Contains}
 use Rattle.std.specs.Ordering.{int_cmp}
 use Rattle.std.specs.BTreeSet.{BTreeSet, contains}
 use Rattle.sy_core.specs.declared.happening.Happening.{Happening}
-use Rattle.std.specs.List.{Contains}
 use Rattle.sy_run.specs.Output.{payment}
 
 -- the happenings that were noted are payments, and the set has just their points
