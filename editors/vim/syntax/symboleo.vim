@@ -4,6 +4,10 @@ if exists('b:current_syntax')
   finish
 endif
 
+" Lines that begin with a backslash go on, in compatible mode too.
+let s:cpo_save = &cpo
+set cpo&vim
+
 " A run of letters, digits and `_` that begins with a letter is one word. A digit may stand right
 " before a word, as in `10Days`, and so the words below are matches and no keywords of Vim.
 syntax case match
@@ -77,3 +81,6 @@ highlight default link symboleoLog Keyword
 highlight default link symboleoProperty Keyword
 
 let b:current_syntax = 'symboleo'
+
+let &cpo = s:cpo_save
+unlet s:cpo_save

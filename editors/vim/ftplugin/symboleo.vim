@@ -1,0 +1,10 @@
+" Vim filetype plugin for symboleo: how a comment is written.
+
+if exists('b:did_ftplugin')
+  finish
+endif
+let b:did_ftplugin = 1
+
+setlocal commentstring=//\ %s
+setlocal comments=://
+let b:undo_ftplugin = 'setlocal commentstring< comments<'
