@@ -57,7 +57,7 @@ fn main(rt: HostRuntime) -> ExitCode {
     let Ok(words) = words(&rt, rt.alloc()) else {
         return ExitCode::from(Status::Memory.number());
     };
-    let mut files = HostFiles::new(&rt);
+    let mut files = HostFiles::new(&rt, rt.alloc());
     let mut input = StdInput::new(rt.reader());
     let mut out = StdOutput::new(io::writer(&rt));
     let status = counted::<Brand, _, _, _>(
