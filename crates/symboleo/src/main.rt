@@ -21,7 +21,7 @@ use sy_run::{Status, run};
 /// The greatest length of a word in bytes: the system passes no longer one.
 const WORD_LIMIT: usize = 131_072;
 
-// The words after the program's name. They need not be UTF-8.
+/// The words after the program's name. They need not be UTF-8.
 fn words<R: Env>(rt: &R, alloc: Global) -> Result<List<Text>, Memory> {
     let mut words = List::new(alloc);
     let mut buf = vec![in alloc; 0; WORD_LIMIT]?;
@@ -35,7 +35,7 @@ fn words<R: Env>(rt: &R, alloc: Global) -> Result<List<Text>, Memory> {
     Ok(words)
 }
 
-// Runs with a counter of steps that begins at 0.
+/// Runs with a counter of steps that begins at 0.
 fn counted<L: Ledger, F: Files, S: Source, W: Sink>(
     alloc: Global,
     words: &[Text],
