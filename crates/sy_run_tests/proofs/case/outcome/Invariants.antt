@@ -1,4 +1,4 @@
-use Rattle.sy_runs.proofs.case.outcome.Given as goal
+use Rattle.sy_run_tests.proofs.case.outcome.Given as goal
 
 -- the ledger of the counter is the one of its blank
 abbrev pub ghosts-counted : goal.ghosts-counted
