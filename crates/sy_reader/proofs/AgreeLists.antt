@@ -1,22 +1,15 @@
 -- Lists with commas and lines with semicolons agree.
-use Rattle.std.proofs.Common.{◌≡◌, inl, inr, ℕ, ◌≤◌, ◌<◌, true, false, not, List, [], ◌∷◌, Ok, if◌then◌else◌, refl, ap, arith}
-use Rattle.sy_lex.specs.declared.keyword.Keyword.{Keyword}
-use Rattle.sy_lex.specs.declared.keyword.Keyword.TheVariants as K
+use Rattle.std.proofs.Common.{◌≡◌, ◌<◌, false, not, List, [], refl, arith}
 use Rattle.sy_lex.specs.declared.sign.Sign.{Sign}
-use Rattle.sy_lex.specs.declared.sign.Sign.TheVariants as Sg
 use Rattle.sy_lex.specs.declared.sign.Sign.TheVariants.{Semicolon}
-use Rattle.sy_lex.specs.declared.token.TokenKind.{TokenKind}
 use Rattle.sy_lex.specs.declared.token.TokenKind.TheVariants as S
-use Rattle.sy_lex.specs.declared.written.Written.{Written}
 use Rattle.sy_lex.specs.Lexemes.{Lexeme}
-use Rattle.sy_reader.specs.Grammar as grammar
-use Rattle.sy_reader.specs.Grammar.{Rule, spelled, token, before, ended, maybe_listed}
-use Rattle.sy_reader.specs.Machine.Reading as reader
-use Rattle.sy_reader.specs.Machine.Reading.{Read, Reading, begins_with, next_passes, maybe_listed_at}
+use Rattle.sy_reader.specs.Grammar.{Rule, ended, maybe_listed}
+use Rattle.sy_reader.specs.Machine.Reading.{Reading, next_passes, maybe_listed_at}
 use Rattle.sy_reader.specs.Machine.ReadingLines.{no_heading, ended_at}
-use Rattle.sy_reader.proofs.Agree.{Behind, Agrees, Any, Next, Begins, Is, Differs, weaker_agrees, anywhere, then_agrees, then_any, before_agrees, before_takes, begins_then, begins_so, keyword_agrees, keyword_begins, token_begins, not_it}
-use Rattle.sy_reader.proofs.AgreeMany.{Ends, rank, many_agrees, ends_at, ends_lower, ends_without, listed_agrees}
-use Rattle.sy_reader.proofs.AgreeChoices.{optional_agrees, unless_agrees}
+use Rattle.sy_reader.proofs.Agree.{Behind, Agrees, Any, Next, Begins, Is, Differs, anywhere, before_agrees, before_takes, begins_then, begins_so}
+use Rattle.sy_reader.proofs.AgreeMany.{rank, many_agrees, ends_at, listed_agrees}
+use Rattle.sy_reader.proofs.AgreeChoices.{unless_agrees}
 
 -- a list with commas, or nothing where the sign stands that ends it
 pub maybe_listed_agrees : {A : Type 0} {R : Rule A} {r : Reading A} (s : Sign) → 6 < rank (S.Sign s) → Agrees R r Any → Begins R (Differs (S.Sign s)) → Agrees (maybe_listed R) (maybe_listed_at s r) (Next (Is (S.Sign s)))

@@ -1,9 +1,7 @@
 -- How lines are read, up to the next heading.
-use Rattle.std.specs.Prelude.{Bool, true, false, not, List}
-use Rattle.sy_lex.specs.declared.keyword.Keyword.TheVariants as K
+use Rattle.std.specs.Prelude.{Bool, false, not, List}
 use Rattle.sy_lex.specs.declared.sign.Sign.TheVariants.{Semicolon}
 use Rattle.sy_lex.specs.declared.token.TokenKind.{TokenKind}
-use Rattle.sy_lex.specs.declared.token.TokenKind.TheVariants as S
 use Rattle.sy_lex.specs.Lexemes.{Lexeme}
 use Rattle.sy_reader.specs.Machine.Reading.{Reading, next_passes, many_at, before_at}
 
