@@ -14,7 +14,7 @@ use sy_core::{
 };
 use sy_words::{Cmp, Form, Kind, Verb};
 
-// The places of the events in the deed.
+/// The places of the events in the deed.
 const DELIVERED: u32 = 0;
 
 const PAID: u32 = 1;
@@ -23,7 +23,7 @@ const PAID_LATE: u32 = 2;
 
 const DISCLOSED: u32 = 3;
 
-// The places of oPay, pHold, pGo and pEnd in the deed.
+/// The places of oPay, pHold, pGo and pEnd in the deed.
 const PAY: u32 = 1;
 
 const HOLD: u32 = 4;

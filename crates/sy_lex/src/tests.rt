@@ -150,7 +150,7 @@ fn cuts_texts_into_tokens(rt: HostRuntime) -> Result<(), Fail> {
     Ok(())
 }
 
-// Where the text is refused.
+/// Where the text is refused.
 fn refused_at(alloc: Global, source: &[u8]) -> Option<Place>
     requires { length source.now < 2 ^ 32 }
 {

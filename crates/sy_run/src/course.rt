@@ -1,4 +1,3 @@
-//! What a deed comes to, point by point.
 ghost use Rattle.std.specs.Prelude.{◌≡◌, ◌++◌, ◌+ℤ◌, ◌<◌, ◌^◌, ℕ, suc, pos, [], ◌∷◌, List, IfOk, OnOk, length, if◌then◌else◌};
 ghost use Rattle.sy_base.specs.Points.{IsDated};
 ghost use Rattle.sy_core.specs.declared.deed.Deed.{Deed as ADeed};
@@ -24,7 +23,7 @@ pub(crate) struct Course {
     pub(crate) violations: List<Mark>,
 }
 
-// Adds a mark if the position is violated at the last point, which is this one.
+/// Adds a mark if the position is violated at the last point, which is this one.
 fn add_if_broken(
     plain: &Plain,
     point: Point,
@@ -43,7 +42,7 @@ fn add_if_broken(
     Ok(())
 }
 
-// Adds a mark for each position that is violated at the last point, which is this one.
+/// Adds a mark for each position that is violated at the last point, which is this one.
 fn add_broken(
     deed: &Deed,
     plain: &Plain,
@@ -63,7 +62,7 @@ fn add_broken(
     Ok(())
 }
 
-// Evaluates the next point, at which stands what was noted there.
+/// Evaluates the next point, at which stands what was noted there.
 fn go_on(
     alloc: Global,
     deed: &Deed,
@@ -85,7 +84,7 @@ fn go_on(
 }
 
 impl Course {
-    // No point is evaluated.
+    /// No point is evaluated.
     fn new(alloc: Global, deed: &Deed) -> Result<Course, Memory>
         requires { IsSound deed.now }
         ensures start { (noted : List Happening) → IfOk result (λ course. HasCome course deed.now noted 0) }
@@ -98,7 +97,7 @@ impl Course {
         })
     }
 
-    // One more point is evaluated.
+    /// One more point is evaluated.
     fn step(&mut self, alloc: Global, deed: &Deed, entries: &Entries) -> Result<(), Memory>
         requires sound { IsSound deed.now }
         requires made { HasDatedPoints self.old.plain deed.now }

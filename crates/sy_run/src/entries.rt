@@ -1,4 +1,3 @@
-//! The entries of a log that were noted.
 ghost use Rattle.std.specs.Prelude.{◌≡◌, ◌⊎◌, List, [], ◌∷◌, ◌++◌, IfOk, OnOk};
 ghost use Rattle.sy_core.specs.declared.happening.Happening.{Happening as Noted};
 ghost use Rattle.sy_run.specs.Output.{payment};
@@ -9,7 +8,7 @@ use std::collections::BTreeSet;
 use sy_base::{List, Memory, Point};
 use sy_core::{Happening, What};
 
-// The event of the first path at a point.
+/// The event of the first path at a point.
 fn payment(alloc: Global, point: Point) -> Happening
     ensures { result ≡ payment point }
 {

@@ -1,4 +1,3 @@
-//! The files of a run: the specification and the binding, and the deed that they give.
 ghost use Rattle.std.specs.Prelude.{◌≡◌, ◌<◌, ◌^◌, ℕ, List, length, IsTrue, IfOk, Some};
 ghost use Rattle.std.specs.declared.option.Option.{Option};
 ghost use Rattle.sy_outside.specs.Outside.{CauseOf};
@@ -23,7 +22,7 @@ use sy_lex::tokens;
 use sy_outside::{FileFault, Files, read_file};
 use sy_spec::{SpecTree, spec};
 
-// The bytes of a file.
+/// The bytes of a file.
 fn read_text<F: Files>(
     alloc: Global,
     files: &mut F,
@@ -46,7 +45,7 @@ fn read_text<F: Files>(
     }
 }
 
-// The specification of these bytes.
+/// The specification of these bytes.
 fn spec_of(alloc: Global, bytes: &[u8]) -> Result<SpecTree, Stop>
     requires few { length bytes.now < 2 ^ 32 }
     ensures told { IsToldAs (IsTree kind.Spec SpellsSpec bytes.now) result }
@@ -56,7 +55,7 @@ fn spec_of(alloc: Global, bytes: &[u8]) -> Result<SpecTree, Stop>
     Ok(spec(alloc, bytes, tokens.items())?)
 }
 
-// The binding of these bytes.
+/// The binding of these bytes.
 fn binding_of(alloc: Global, bytes: &[u8]) -> Result<BindTree, Stop>
     requires few { length bytes.now < 2 ^ 32 }
     ensures told { IsToldAs (IsTree kind.Bind SpellsBinding bytes.now) result }
@@ -82,7 +81,7 @@ pub(crate) fn read_spec<F: Files>(
     spec_of(alloc, text.bytes())
 }
 
-// The binding in a file.
+/// The binding in a file.
 fn read_binding<F: Files>(alloc: Global, files: &mut F, name: &Text) -> Result<BindTree, Stop>
     requires { IsTrue (F.lent files.old name.now) }
     ensures told { (told : Option (List ℕ)) → F.told files.old name.now ≡ Some told → IsToldAs (IsBindingIn told) result }
@@ -92,7 +91,7 @@ fn read_binding<F: Files>(alloc: Global, files: &mut F, name: &Text) -> Result<B
     binding_of(alloc, text.bytes())
 }
 
-// A date that was found in a tree, or the refusal of one that isn't followed yet.
+/// A date that was found in a tree, or the refusal of one that isn't followed yet.
 fn found(alloc: Global, file: FileKind, date: Option<Point>) -> Result<Point, Stop>
     ensures { result ≡ date_or_refusal file date }
 {
@@ -102,7 +101,7 @@ fn found(alloc: Global, file: FileKind, date: Option<Point>) -> Result<Point, St
     }
 }
 
-// The due date of a specification.
+/// The due date of a specification.
 fn due_date_of(alloc: Global, tree: &SpecTree) -> Result<Point, Stop>
     ensures told { IsToldAs (λ date. date ≡ date_or_refusal kind.Spec (first.due_date tree.now)) result }
     ensures dated { IfOk result (IsDated Day) }

@@ -1,5 +1,3 @@
-//! The texts that are followed so far: one specification with any due date, its binding with any
-//! start, and the lines of its log.
 ghost use Rattle.std.specs.Prelude.{◌≡◌, IfOk, IfSome};
 ghost use Rattle.sy_base.specs.Points.{IsDated};
 ghost use Rattle.sy_base.specs.declared.time.TimeUnit.TheVariants.{Day};
@@ -24,7 +22,7 @@ pub(crate) enum Entry {
     Report(Point),
 }
 
-// The point of the date that stands between these texts.
+/// The point of the date that stands between these texts.
 fn date_between(head: &[u8], tail: &[u8], bytes: &[u8]) -> Option<Point>
     ensures date { result ≡ text.date_between head.now tail.now bytes.now }
     ensures dated { IfSome result (IsDated Day) }
@@ -80,7 +78,7 @@ pub(crate) fn read_line(start: Point, line: &[u8]) -> Option<Entry>
     }
 }
 
-// That the event happens before the date.
+/// That the event happens before the date.
 fn happens_before(alloc: Global, due: Point) -> Prop
     ensures { result ≡ text.happens_before due }
 {

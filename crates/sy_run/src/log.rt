@@ -1,4 +1,3 @@
-//! The lines of a log, and what is answered to each.
 ghost use Rattle.std.specs.Prelude.{◌≡◌, ◌≤◌, ◌+◌, ◌^◌, ℕ, List, IsTrue, IfOk, IfErr, Some, [], length, false};
 ghost use Rattle.std.specs.Option.{is_some};
 ghost use Rattle.sy_outside.specs.Outside.{CauseOf};
@@ -33,7 +32,7 @@ pub(crate) struct Log {
     pub(crate) lines: u64,
 }
 
-// The report of a date.
+/// The report of a date.
 fn report(alloc: Global, deed: &Deed, entries: &Entries, date: Point) -> Result<Text, Memory>
     requires first { IsFirstDeed deed.now }
     requires dated { IsDated deed.now.unit date }
@@ -44,7 +43,7 @@ fn report(alloc: Global, deed: &Deed, entries: &Entries, date: Point) -> Result<
     report_text(alloc, deed, &table)
 }
 
-// What is answered to an entry, which is noted where it is a payment.
+/// What is answered to an entry, which is noted where it is a payment.
 fn reply_to(alloc: Global, deed: &Deed, entries: &mut Entries, entry: Entry) -> Result<Text, Stop>
     requires first { IsFirstDeed deed.now }
     requires dated { IsDatedEntry entry }
@@ -62,7 +61,7 @@ fn reply_to(alloc: Global, deed: &Deed, entries: &mut Entries, entry: Entry) -> 
     }
 }
 
-// What is answered to a line that is short enough.
+/// What is answered to a line that is short enough.
 fn reply_line(alloc: Global, deed: &Deed, entries: &mut Entries, line: &Line) -> Result<Text, Stop>
     requires first { IsFirstDeed deed.now }
     requires short { length line.now.bytes ≤ 4096 }
@@ -77,14 +76,14 @@ fn reply_line(alloc: Global, deed: &Deed, entries: &mut Entries, line: &Line) ->
     }
 }
 
-// A line is refused.
+/// A line is refused.
 fn refused(alloc: Global, number: u64, name: FaultName) -> Stop
     ensures { result ≡ Stop.Refused (refusals.of_line kind.Log number name) }
 {
     Stop::Refused(of_line(alloc, FileKind::Log, number, name))
 }
 
-// Why the log goes no further after so many lines.
+/// Why the log goes no further after so many lines.
 fn stop_at(alloc: Global, lines: u64, fault: LineFault) -> Stop
     requires { lines ≤ 2 ^ 32 }
     ensures { result ≡ stop_at lines fault }

@@ -1,4 +1,3 @@
-//! The text of a refusal.
 ghost use Rattle.std.specs.Prelude.{◌≡◌, ◌++◌, IfOk, OnOk, string_bytes};
 ghost use Rattle.sy_run.specs.RefusalText as text;
 
@@ -29,7 +28,7 @@ pub(crate) fn of_line(alloc: Global, file: FileKind, line: u64, name: FaultName)
     }
 }
 
-// A line and a blank, where the column is 0; else the line, the column and a blank.
+/// A line and a blank, where the column is 0; else the line, the column and a blank.
 fn line_and_column(alloc: Global, line: u64, column: u64) -> Result<String, AllocError>
     ensures { IfOk result (λ s. string_bytes s ≡ text.line_and_column line column) }
 {
@@ -40,7 +39,7 @@ fn line_and_column(alloc: Global, line: u64, column: u64) -> Result<String, Allo
     }
 }
 
-// The place with a blank behind it, where there is one.
+/// The place with a blank behind it, where there is one.
 fn place_text(alloc: Global, place: Option<Place>) -> Result<String, AllocError>
     ensures { IfOk result (λ s. string_bytes s ≡ text.place_text place) }
 {
@@ -50,7 +49,7 @@ fn place_text(alloc: Global, place: Option<Place>) -> Result<String, AllocError>
     }
 }
 
-// Adds a blank and the words, where there are some.
+/// Adds a blank and the words, where there are some.
 fn add_words(out: &mut Vec<u8>, words: &[u8]) -> Result<(), AllocError>
     ensures { OnOk result (out.new.items ≡ out.old.items ++ text.words_text words.now) }
 {
@@ -63,7 +62,7 @@ fn add_words(out: &mut Vec<u8>, words: &[u8]) -> Result<(), AllocError>
     }
 }
 
-// What a refusal says before its words.
+/// What a refusal says before its words.
 fn head_text(
     alloc: Global,
     file: FileKind,

@@ -1,4 +1,3 @@
-//! The text of a report.
 ghost use Rattle.std.specs.Prelude.{◌≡◌, ◌++◌, ◌∷◌, [], OnOk, IfOk, length, slice_get, All, codes};
 ghost use Rattle.std.specs.List.{flat_map};
 ghost use Rattle.sy_base.specs.Dates.{date_text};
@@ -12,7 +11,7 @@ use sy_core::{Deed, Mark, Position, StateOf, Table, Verdict};
 use sy_time::write_date;
 use sy_words::Form;
 
-// The word of a state.
+/// The word of a state.
 fn state_word(state: StateOf) -> &'static [u8]
     ensures { result.now ≡ text.state_word state }
 {
@@ -30,7 +29,7 @@ fn state_word(state: StateOf) -> &'static [u8]
     }
 }
 
-// The word of a position's form.
+/// The word of a position's form.
 fn form_word(form: Form) -> &'static [u8]
     ensures { result.now ≡ text.form_word form }
 {
@@ -41,7 +40,7 @@ fn form_word(form: Form) -> &'static [u8]
     }
 }
 
-// The word of a verdict.
+/// The word of a verdict.
 fn verdict_word(verdict: Verdict) -> &'static [u8]
     ensures { result.now ≡ text.verdict_word verdict }
 {
@@ -52,7 +51,7 @@ fn verdict_word(verdict: Verdict) -> &'static [u8]
     }
 }
 
-// Adds a line of one word.
+/// Adds a line of one word.
 fn add_word(out: &mut Vec<u8>, word: &[u8]) -> Result<(), AllocError>
     ensures { OnOk result (out.new.items ≡ out.old.items ++ text.line (word.now ∷ [])) }
 {
@@ -61,7 +60,7 @@ fn add_word(out: &mut Vec<u8>, word: &[u8]) -> Result<(), AllocError>
     Ok(())
 }
 
-// Adds a line of two words.
+/// Adds a line of two words.
 fn add_pair(out: &mut Vec<u8>, first: &[u8], second: &[u8]) -> Result<(), AllocError>
     ensures { OnOk result (out.new.items ≡ out.old.items ++ text.line (first.now ∷ second.now ∷ [])) }
 {
@@ -70,7 +69,7 @@ fn add_pair(out: &mut Vec<u8>, first: &[u8], second: &[u8]) -> Result<(), AllocE
     add_word(out, second)
 }
 
-// Adds a line of three words.
+/// Adds a line of three words.
 fn add_triple(
     out: &mut Vec<u8>,
     first: &[u8],
@@ -84,7 +83,7 @@ fn add_triple(
     add_pair(out, second, third)
 }
 
-// The name of the position with this number.
+/// The name of the position with this number.
 fn name_of(positions: &[Position], number: u32) -> &[u8]
     ensures { result.now ≡ text.name_of (slice_get positions.now number) }
 {
@@ -94,7 +93,7 @@ fn name_of(positions: &[Position], number: u32) -> &[u8]
     }
 }
 
-// Adds a line for each position.
+/// Adds a line for each position.
 fn add_positions(
     out: &mut Vec<u8>,
     positions: &[Position],
@@ -110,7 +109,7 @@ fn add_positions(
     Ok(())
 }
 
-// Adds a line for each postcondition.
+/// Adds a line for each postcondition.
 fn add_posts(alloc: Global, out: &mut Vec<u8>, posts: &[Verdict]) -> Result<(), AllocError>
     ensures { OnOk result (out.new.items ≡ out.old.items ++ text.post_lines 1 posts.now) }
 {
@@ -121,7 +120,7 @@ fn add_posts(alloc: Global, out: &mut Vec<u8>, posts: &[Verdict]) -> Result<(), 
     Ok(())
 }
 
-// Adds a line of a word and a date.
+/// Adds a line of a word and a date.
 fn add_date(out: &mut Vec<u8>, word: &[u8], unit: TimeUnit, point: Point) -> Result<(), AllocError>
     requires { IsDated unit point }
     ensures { OnOk result (out.new.items ≡ out.old.items ++ text.line (word.now ∷ date_text unit point ∷ [])) }
@@ -131,7 +130,7 @@ fn add_date(out: &mut Vec<u8>, word: &[u8], unit: TimeUnit, point: Point) -> Res
     add_pair(out, word, &date[..length])
 }
 
-// Adds a line of a word, a date and a name.
+/// Adds a line of a word, a date and a name.
 fn add_dated(
     out: &mut Vec<u8>,
     word: &[u8],
@@ -147,7 +146,7 @@ fn add_dated(
     add_triple(out, word, &date[..length], name)
 }
 
-// Adds a line for each mark.
+/// Adds a line for each mark.
 fn add_marks(out: &mut Vec<u8>, word: &[u8], deed: &Deed, marks: &[Mark]) -> Result<(), AllocError>
     requires { All (λ m. IsDated deed.now.unit m.point) marks.now }
     ensures { OnOk result (out.new.items ≡ out.old.items ++ flat_map (text.mark_line deed.now word.now) marks.now) }

@@ -1,4 +1,3 @@
-//! How a run ends that goes no further.
 ghost use Rattle.std.specs.Prelude.{◌≡◌};
 ghost use Rattle.std.specs.Option.{is_some};
 ghost use Rattle.sy_run.specs.Machine.Stream.{StopsWith, WriteCaused};
@@ -41,7 +40,7 @@ impl From<Memory> for Stop {
     }
 }
 
-// Writes the line of a refusal.
+/// Writes the line of a refusal.
 fn refuse<W: Sink>(alloc: Global, refusal: &Refusal, out: &mut W) -> Status
     ensures ends { StopsWith (W.held out.old) (W.held out.new) (stop.Refused refusal.now) result }
     ensures cause { WriteCaused (W.faults out.old) (W.faults out.new) result }

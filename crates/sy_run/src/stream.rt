@@ -1,4 +1,3 @@
-//! The lines of an input, answered one after the other.
 ghost use Rattle.std.specs.Prelude.{◌≡◌, ◌+◌, List, [], ℕ, IfNone, IfSome, Some};
 ghost use Rattle.std.specs.declared.option.Option.{Option};
 ghost use Rattle.sy_outside.specs.LineReaderState.{new_line_reader};
@@ -14,7 +13,7 @@ use sy_base::Text;
 use sy_core::Deed;
 use sy_outside::{LineReader, Sink, Source, write_all};
 
-// Writes what is answered to a line. It answers a status where the stream ends.
+/// Writes what is answered to a line. It answers a status where the stream ends.
 fn write_reply<W: Sink>(text: &Text, out: &mut W) -> Option<Status>
     ensures written { WritesReply (W.held out.old) (W.held out.new) text.now result }
     ensures cause { (read : ℕ) → CausedIf read read (W.faults out.old) (W.faults out.new) result }
@@ -25,7 +24,7 @@ fn write_reply<W: Sink>(text: &Text, out: &mut W) -> Option<Status>
     }
 }
 
-// Answers the next line. It answers a status where the stream ends.
+/// Answers the next line. It answers a status where the stream ends.
 fn one_line<S: Source, W: Sink>(
     alloc: Global,
     deed: &Deed,

@@ -1,4 +1,3 @@
-//! The table as of a date.
 ghost use Rattle.std.specs.Prelude.{◌≡◌, ◌<◌, ◌^◌, ◌≤ℤ◌, ◌-ℤ◌, [], List, IfOk, nat_abs, replicate};
 ghost use Rattle.sy_base.specs.Points.{IsDated};
 ghost use Rattle.sy_core.specs.declared.happening.Happening.{Happening};
@@ -14,7 +13,7 @@ use std::alloc::Global;
 use sy_base::{List, Memory, Point};
 use sy_core::{Deed, StateOf, Table, copy_states};
 
-// So many positions, each of which is Null.
+/// So many positions, each of which is Null.
 fn all_null(alloc: Global, positions: usize) -> Result<List<StateOf>, Memory>
     ensures { IfOk result (λ states. states ≡ replicate positions state.Null) }
 {
@@ -25,7 +24,7 @@ fn all_null(alloc: Global, positions: usize) -> Result<List<StateOf>, Memory>
     Ok(states)
 }
 
-// How many points there are from start to the date, without the date.
+/// How many points there are from start to the date, without the date.
 fn points_before(deed: &Deed, date: Point) -> u32
     requires start { IsDated deed.now.unit deed.now.start }
     requires dated { IsDated deed.now.unit date }
@@ -36,7 +35,7 @@ fn points_before(deed: &Deed, date: Point) -> u32
     (date - deed.start) as u32
 }
 
-// The table as of a date before start.
+/// The table as of a date before start.
 fn table_before(alloc: Global, deed: &Deed, date: Point) -> Result<Table, Memory>
     requires { IsFirstDeed deed.now }
     ensures { IfOk result (λ table. table ≡ tables.table_before deed.now date) }
@@ -51,8 +50,8 @@ fn table_before(alloc: Global, deed: &Deed, date: Point) -> Result<Table, Memory
     })
 }
 
-// The table as of a date from start on. A deed of the first path has no postconditions, and only
-// payments are noted, so that no power is exerted.
+/// The table as of a date from start on. A deed of the first path has no postconditions, and only
+/// payments are noted, so that no power is exerted.
 fn table_after(alloc: Global, deed: &Deed, entries: &Entries, date: Point) -> Result<Table, Memory>
     requires first { IsFirstDeed deed.now }
     requires dated { IsDated deed.now.unit date }

@@ -3,13 +3,13 @@ use std::test::Fail;
 use sy_run::Status;
 use sy_samples::{s, s_bind};
 
-// Three reports, of 18 bytes a line.
+/// Three reports, of 18 bytes a line.
 const LOG: &[u8] = b"report 2024-02-29\nreport 2024-02-29\nreport 2024-02-29\n";
 
 const THREE: &[u8] =
     b"report 2024-02-29\ncontract Form\nobligation oPay Null\nend\nreport 2024-02-29\ncontract Form\nobligation oPay Null\nend\nreport 2024-02-29\ncontract Form\nobligation oPay Null\nend\n";
 
-// How many bytes one of the reports has.
+/// How many bytes one of the reports has.
 const REPORT: usize = 57;
 
 fn with_faults<'a>(file: u64, read: u64, write: u64) -> Case<'a> {

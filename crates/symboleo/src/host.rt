@@ -1,5 +1,3 @@
-//! The outside of the program: files by name, standard input and standard output. They tell nothing
-//! of content, so contracts speak of safety and of the causes of faults alone.
 ghost use Rattle.std.specs.Prelude.{◌≡◌, ◌≤◌, ◌↔◌, ◌+◌, ◌-◌, ◌^◌, min, length, true, IsTrue, None, IfSome, IsSomeAnd};
 
 use std::alloc::Global;

@@ -1,5 +1,6 @@
 //! The program: it makes the objects of the outside, calls `run` with its words, and ends with the
-//! status.
+//! status. The objects are in `host.rt`: files by name, standard input and standard output. They tell
+//! contracts nothing of content, so contracts speak of safety and of the causes of faults alone.
 #![tactic(auto)]
 
 ghost use Rattle.std.specs.Prelude.{◌≡◌, ◌<◌, List, ℕ, IsTrue};
