@@ -1,5 +1,5 @@
 -- The rules of propositions and what reads them agree.
-use Rattle.std.proofs.Common.{◌≡◌, ◌⊎◌, inl, inr, ℕ, zero, suc, ◌≤◌, ◌<◌, Bool, true, false, not, List, refl, sym, subst, ◌∙◌, arith}
+use Rattle.std.proofs.Common.{◌≡◌, ◌⊎◌, inl, inr, ℕ, zero, suc, ◌≤◌, ◌<◌, Bool, true, false, List, refl, sym, subst, ◌∙◌, arith}
 use Rattle.sy_base.specs.declared.refusal.Place.{Place}
 use Rattle.sy_lex.specs.declared.keyword.Keyword.{Keyword}
 use Rattle.sy_lex.specs.declared.keyword.Keyword.TheVariants as K
