@@ -3,10 +3,8 @@ use Rattle.std.proofs.Common.{◌≡◌, List, [], ◌∷◌, Ok, Err, refl}
 use Rattle.sy_binding.specs.declared.tree.BindTree.{BindTree}
 use Rattle.sy_lex.specs.Lexemes.{Lexeme}
 use Rattle.sy_reader.specs.Grammar.{Rule}
-use Rattle.sy_spec.specs.Spelling.{SpellsSpec}
 use Rattle.sy_binding.specs.Spelling.{SpellsBinding}
 use Rattle.sy_reader.specs.Machine.Reading.{Read, Reading}
-use Rattle.sy_spec.specs.Machine.ReadingSpecifications.{spec_at}
 use Rattle.sy_reader.specs.Machine.Reading.{whole_of, whole_at}
 use Rattle.sy_binding.specs.Machine.ReadingBindings.{binding_at}
 use Rattle.sy_reader.proofs.Agree.{Behind, Agrees}

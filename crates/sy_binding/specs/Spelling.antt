@@ -1,9 +1,7 @@
 -- What spells a tree: its lexemes, by its rule, with none left behind them.
 use Rattle.std.specs.Prelude.{List, []}
-use Rattle.sy_spec.specs.declared.contract.SpecTree.{SpecTree}
 use Rattle.sy_binding.specs.declared.tree.BindTree.{BindTree}
 use Rattle.sy_lex.specs.Lexemes.{Lexeme}
-use Rattle.sy_spec.specs.Specifications.{spec}
 use Rattle.sy_binding.specs.Bindings.{binding}
 
 -- these lexemes spell the binding

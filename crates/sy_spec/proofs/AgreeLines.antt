@@ -17,9 +17,9 @@ use Rattle.sy_reader.specs.Machine.Reading as reader
 use Rattle.sy_reader.specs.Machine.Reading.{Read, Reading, begins_with, next_passes, maybe_listed_at}
 use Rattle.sy_spec.specs.Machine.ReadingSpecifications.{is_heading}
 use Rattle.sy_reader.specs.Machine.ReadingLines.{ended_at}
-use Rattle.sy_reader.proofs.Agree.{Behind, Agrees, Any, Next, Begins, Is, Differs, weaker_agrees, anywhere, then_agrees, then_any, before_agrees, before_takes, begins_then, begins_so, keyword_agrees, keyword_begins, token_begins, not_it}
-use Rattle.sy_reader.proofs.AgreeMany.{Ends, rank, many_agrees, ends_at, ends_lower, ends_without, listed_agrees}
-use Rattle.sy_reader.proofs.AgreeChoices.{optional_agrees, unless_agrees}
+use Rattle.sy_reader.proofs.Agree.{Behind, Agrees, Any, Next, Begins, Is, Differs, weaker_agrees, then_agrees, then_any, before_agrees, before_takes, begins_then, begins_so, keyword_agrees, keyword_begins, token_begins, not_it}
+use Rattle.sy_reader.proofs.AgreeMany.{Ends, rank, many_agrees, ends_at, ends_lower, ends_without}
+use Rattle.sy_reader.proofs.AgreeChoices.{optional_agrees}
 use Rattle.sy_tree.proofs.AgreePropositions.{in_line}
 
 line_test : (s : TokenKind) → in_line s ≡ true → not (is_heading s) ≡ true

@@ -24,7 +24,7 @@ use Rattle.sy_tree.specs.Propositions.{prop}
 use Rattle.sy_spec.specs.Specifications.{enumeration, base, attr, with_listed, type, domain, unit_word, unit, param, give, decl, trigger, oblig, verb_word, verb, act, power, contract, spec}
 use Rattle.sy_reader.specs.Machine.Reading.{Reading, fail, between_at, maybe_listed_at}
 use Rattle.sy_reader.specs.Machine.ReadingLines.{ended_at}
-use Rattle.sy_spec.specs.Machine.ReadingSpecifications.{enumeration_at, base_by, base_at, env_at, attr_at, with_listed_at, is_a_at, derived_at, body_at, type_at, domain_at, unit_of_at, unit_by, unit_at, param_at, give_at, decl_at, trigger_at, oblig_at, verb_of_at, verb_by, verb_at, act_at, power_at, surviving_at, contract_at, spec_at}
+use Rattle.sy_spec.specs.Machine.ReadingSpecifications.{is_heading, enumeration_at, base_by, base_at, env_at, attr_at, with_listed_at, is_a_at, derived_at, body_at, type_at, domain_at, unit_of_at, unit_by, unit_at, param_at, give_at, decl_at, trigger_at, oblig_at, verb_of_at, verb_by, verb_at, act_at, power_at, surviving_at, contract_at, spec_at}
 use Rattle.sy_tree.specs.Machine.ReadingPropositions.{prop_at}
 use Rattle.sy_reader.proofs.Agree.{Agrees, Any, Next, Begins, Is, Differs, spelled_agrees, anywhere, same_agrees, swap_agrees, then_agrees, then_any, node_agrees, token_agrees, keyword_agrees, behind_agrees, before_agrees, before_any, begins_then, begins_or, begins_as, begins_so, token_begins, keyword_begins}
 use Rattle.sy_reader.proofs.AgreeMany.{Ends, Without, ends_at, ends_without, listed_agrees}

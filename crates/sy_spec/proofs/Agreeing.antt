@@ -1,12 +1,10 @@
 -- What reading finds in all lexemes is the specification that they spell, and they spell one at most.
-use Rattle.std.proofs.Common.{◌≡◌, List, [], ◌∷◌, Ok, Err, refl}
+use Rattle.std.proofs.Common.{◌≡◌, List, Ok}
 use Rattle.sy_spec.specs.declared.contract.SpecTree.{SpecTree}
 use Rattle.sy_lex.specs.Lexemes.{Lexeme}
-use Rattle.sy_reader.specs.Grammar.{Rule}
-use Rattle.sy_reader.specs.Machine.Reading.{Read, Reading}
+use Rattle.sy_spec.specs.Spelling.{SpellsSpec}
 use Rattle.sy_spec.specs.Machine.ReadingSpecifications.{spec_at}
-use Rattle.sy_reader.specs.Machine.Reading.{whole_of, whole_at}
-use Rattle.sy_reader.proofs.Agree.{Behind, Agrees}
+use Rattle.sy_reader.specs.Machine.Reading.{whole_at}
 use Rattle.sy_spec.proofs.AgreeSpecifications.{spec_agrees}
 use Rattle.sy_reader.proofs.Agreeing.{whole_read, whole_spelled, whole_one}
 

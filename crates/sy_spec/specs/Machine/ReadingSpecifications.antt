@@ -1,5 +1,5 @@
 -- How specifications are read.
-use Rattle.std.specs.Prelude.{◌≡◌, List, [], ◌∷◌, Option, Some, None, if◌then◌else◌, length, Result, Ok, Err, ℕ}
+use Rattle.std.specs.Prelude.{Bool, true, false, List, [], Option, Some, None, if◌then◌else◌, Ok}
 use Rattle.sy_base.specs.declared.refusal.Place.{Place}
 use Rattle.sy_base.specs.declared.time.TimeUnit.{TimeUnit}
 use Rattle.sy_base.specs.declared.time.TimeUnit.TheVariants.{Minute, Hour, Day}
@@ -29,10 +29,7 @@ use Rattle.sy_spec.specs.declared.position.PowerTree.{PowerTree}
 use Rattle.sy_spec.specs.declared.position.ActTree.{ActTree}
 use Rattle.sy_spec.specs.declared.position.VerbTree.{VerbTree}
 use Rattle.sy_tree.specs.declared.proposition.PropTree.{PropTree}
-use Rattle.sy_lex.specs.Lexemes.{Lexeme}
-use Rattle.sy_reader.specs.declared.fault.Fault.{Fault}
-use Rattle.sy_reader.specs.declared.fault.Fault.TheVariants as F
-use Rattle.sy_reader.specs.Machine.Reading.{Read, Reading, ◌>>=◌, give, fail, begins_with, token_at, keyword_at, by_next, before_at, between_at, listed_at, maybe_listed_at}
+use Rattle.sy_reader.specs.Machine.Reading.{Reading, ◌>>=◌, give, fail, begins_with, token_at, keyword_at, by_next, before_at, between_at, listed_at, maybe_listed_at}
 use Rattle.sy_reader.specs.Machine.ReadingLines.{ended_at}
 use Rattle.sy_tree.specs.Machine.ReadingTerms.{rhs_at, target_at}
 use Rattle.sy_tree.specs.Machine.ReadingPropositions.{prop_at}
