@@ -13,7 +13,6 @@ use Rattle.sy_binding.specs.Bindings.{value, field, bound, given, binding}
 use Rattle.sy_reader.specs.Machine.Reading.{fail}
 use Rattle.sy_binding.specs.Machine.ReadingBindings.{negative_value_at, value_by, value_at, field_at, attributes_at, bound_at, given_at, binding_at}
 use Rattle.sy_reader.proofs.Agree.{Agrees, Any, Begins, Differs, then_any, node_agrees, token_agrees, keyword_agrees, sign_agrees, before_agrees, before_any, begins_then, begins_or, begins_as, token_begins, keyword_begins, sign_begins}
-use Rattle.sy_reader.proofs.AgreeMany.{Ends}
 use Rattle.sy_reader.proofs.AgreeChoices.{Branches, case, ◌or◌, by_next_agrees, token_case, either_agrees}
 use Rattle.sy_reader.proofs.AgreeLists.{AtEnd, all_lines_agree, maybe_listed_agrees}
 

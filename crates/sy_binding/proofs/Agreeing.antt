@@ -1,13 +1,10 @@
 -- What reading finds in all lexemes is the binding that they spell, and they spell one at most.
-use Rattle.std.proofs.Common.{◌≡◌, List, [], ◌∷◌, Ok, Err, refl}
+use Rattle.std.proofs.Common.{◌≡◌, List, Ok, refl}
 use Rattle.sy_binding.specs.declared.tree.BindTree.{BindTree}
 use Rattle.sy_lex.specs.Lexemes.{Lexeme}
-use Rattle.sy_reader.specs.Grammar.{Rule}
 use Rattle.sy_binding.specs.Spelling.{SpellsBinding}
-use Rattle.sy_reader.specs.Machine.Reading.{Read, Reading}
-use Rattle.sy_reader.specs.Machine.Reading.{whole_of, whole_at}
+use Rattle.sy_reader.specs.Machine.Reading.{whole_at}
 use Rattle.sy_binding.specs.Machine.ReadingBindings.{binding_at}
-use Rattle.sy_reader.proofs.Agree.{Behind, Agrees}
 use Rattle.sy_binding.proofs.AgreeBindings.{binding_agrees}
 use Rattle.sy_reader.proofs.Agreeing.{whole_read, whole_spelled, whole_one}
 
