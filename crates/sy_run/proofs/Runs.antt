@@ -1,20 +1,18 @@
 -- A run of a command, from what its parts do.
-use Rattle.std.proofs.Common.{◌≡◌, ℕ, inl, inr, List, [], ◌++◌, refl, sym, subst, ◌∙◌, arith, Some, Ok, Err, Result}
-use Rattle.std.proofs.KnownBytes.{Appends-nil}
+use Rattle.std.proofs.Common.{◌≡◌, ℕ, inl, inr, List, [], ◌++◌, refl, sym, subst, ◌∙◌, Some, Ok, Err, Result}
 use Rattle.std.proofs.lemmas.List.{append_cancel_right}
 use Rattle.std.specs.Prelude.{MatchBool}
 use Rattle.std.specs.declared.option.Option.{Option}
 use Rattle.std.specs.Io.KnownBytes.{Appends}
-use Rattle.sy_outside.specs.Outside.{CauseOf, RoseSince}
-use Rattle.sy_outside.specs.Writing.{AppendsPrefix}
+use Rattle.sy_outside.specs.Outside.{RoseSince}
 use Rattle.sy_base.specs.declared.refusal.Refusal.{Refusal}
 use Rattle.sy_core.specs.declared.deed.Deed.{Deed}
 use Rattle.sy_spec.specs.declared.contract.SpecTree.{SpecTree}
-use Rattle.sy_run.specs.Commands.{Command, Compile, Monitor, Unknown, ReadsInput}
+use Rattle.sy_run.specs.Commands.{Command, Compile, Monitor, Unknown}
 use Rattle.sy_run.specs.Machine.Stopping.{IsToldAs, is_read_stop}
 use Rattle.sy_run.specs.Machine.Stream.{HowStopped, refused, half_refused, not_refused, not_read, no_memory, IsReadingStatus, IsUsageStatus, IsWritingStatus, StopsWith, StreamCaused, StreamEnds, WriteCaused, WroteAllRead}
-use Rattle.sy_run.specs.Outcomes.{End, Finished, Stopped, Missing, Misused, GivesDeed, GivesSpec, IsAskedFor, IsOutcome, Outcome, asked_by_lines, compiled, monitored, stopped, usage}
-use Rattle.sy_run.specs.Run.{Caused, Completes, Ends, EndsAs, IsRun, IsStatusFor, IsStatusOf, KnowsFor, LeavesInput}
+use Rattle.sy_run.specs.Outcomes.{End, Finished, Stopped, Missing, Misused, GivesDeed, IsAskedFor, IsOutcome, Outcome, asked_by_lines, compiled, monitored, stopped, usage}
+use Rattle.sy_run.specs.Run.{Caused, Completes, Ends, EndsAs, IsRun, IsStatusFor, IsStatusOf, KnowsFor}
 use Rattle.sy_run.specs.Texts.{IsDeedIn, IsSpecIn}
 use Rattle.sy_run.specs.World.{World, InputStays, NoneFailed, ReadsSteady}
 use Rattle.sy_run.specs.declared.stop.Stop.{Stop}

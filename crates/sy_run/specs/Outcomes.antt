@@ -1,5 +1,5 @@
 -- The outcome of a command in a world: the text that it writes, and how it ends.
-use Rattle.std.specs.Prelude.{◌≡◌, ◌⊎◌, ℕ, Bool, true, false, List, [], Option, Some, Result, Ok, Err, ⊤}
+use Rattle.std.specs.Prelude.{◌≡◌, ◌⊎◌, ℕ, Bool, true, false, List, [], Option, Some, Result, Ok, Err}
 use Rattle.sy_outside.specs.Lines.{lines_of, whole_lines_of}
 use Rattle.sy_core.specs.declared.deed.Deed.{Deed}
 use Rattle.sy_print.specs.CanonicalText.{canonical_text}

@@ -1,5 +1,4 @@
-use Rattle.std.proofs.Common.{◌≡◌, ℤ, pos, ◌+ℤ◌, List, sym, ◌∙◌, ap, subst}
-use Rattle.sy_core.specs.declared.happening.Happening.{Happening}
+use Rattle.std.proofs.Common.{◌≡◌, pos, ◌+ℤ◌, sym, ◌∙◌, ap, subst}
 use Rattle.sy_axioms.specs.Standing.{HasExactly}
 use Rattle.sy_axioms.proofs.Dates.{dated_is_passed}
 use Rattle.sy_run.specs.Machine.Holding.{payments_at}
@@ -13,7 +12,7 @@ returns-clause-next c = λ noted n holds stands.
     let points = c.args.entries.now.points in
     let point : c.args.point ≡ deed.start +ℤ pos n = sym c.requires.next ∙ stands.at_point in
     let at : c.items.result.now ≡ payments_at points (deed.start +ℤ pos n) =
-        c.items.ensures ∙ (c.in_ok-at.ensures ∙ ap (payments_at points) (dated_is_passed deed.unit c.args.point c.requires.dated ∙ point)) in
+    c.items.ensures ∙ (c.in_ok-at.ensures ∙ ap (payments_at points) (dated_is_passed deed.unit c.args.point c.requires.dated ∙ point)) in
     if_ok c.step.result _ _
     (λ x more. more noted n stands (subst (HasExactly noted (deed.start +ℤ pos n)) (sym at) (holds_exactly points noted (deed.start +ℤ pos n) holds)))
     c.step.ensures.next
