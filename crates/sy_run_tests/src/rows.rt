@@ -6,7 +6,7 @@ use sy_samples::{s, s_bind, s_compiled};
 const MONITOR: &[&[u8]] = &[b"monitor", b"SPEC", b"BIND"];
 
 const USAGE: &[u8] =
-    b"usage: symboleo compile s() | monitor s() s_bind() | check s() s_bind() PROPS BUDGET | certify s() s_bind() PROPS NAME BUDGET | verify s() s_bind() PROPS NAME | replay s() s_bind() PROPS NAME | make SEED COUNT\n";
+    b"usage: symboleo compile SPEC | monitor SPEC BIND | check SPEC BIND PROPS BUDGET | certify SPEC BIND PROPS NAME BUDGET | verify SPEC BIND PROPS NAME | replay SPEC BIND PROPS NAME | make SEED COUNT\n";
 
 const KEPT: &[u8] =
     b"report 2024-03-10\ncontract SuccessfulTermination\nobligation oPay Fulfillment\nend\n";
@@ -102,9 +102,8 @@ fn logs_are_answered(rt: HostRuntime) -> Result<(), Fail> {
 
 const COMPILE: &[&[u8]] = &[b"compile", b"SPEC"];
 
-/// What is compiled from the specification of the first path.
-const canonical: &[u8] =
-    b"Domain s\nParty isA Role ;\nPaid isA Event ;\nendDomain\nContract S ( ) unit Day\nDeclarations\na : Party ;\nb : Party ;\npaid : Paid ;\nObligations\noPay : O ( a , b , true , happensBefore ( paid , 2024-03-11 ) ) ;\nendContract\n";
+/// The lines that `compile` doesn't write yet: the order in which the nodes are evaluated.
+const ORDER: &[u8] = b"order Trig(oPay)\norder Act(oPay)\norder End(oPay)\norder Contract\n";
 
 #[test]
 fn words_and_files_are_answered(rt: HostRuntime) -> Result<(), Fail> {
