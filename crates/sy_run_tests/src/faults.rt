@@ -56,6 +56,20 @@ fn a_failed_write_ends_the_run(rt: HostRuntime) -> Result<(), Fail> {
     Ok(())
 }
 
+/// A run of `compile` whose calls with these numbers fail.
+fn compiling(file: u64, read: u64, write: u64) -> Case<'static> {
+    Case {
+        words: &[b"compile", b"SPEC"],
+        spec: s(),
+        bind: s_bind(),
+        input: LOG,
+        most: 1,
+        failing_read_of_file: file,
+        failing_read: read,
+        failing_write: write,
+    }
+}
+
 #[test]
 fn what_isnt_called_cannot_fail(rt: HostRuntime) -> Result<(), Fail> {
     // `compile` makes two reads of its file and one write, and reads no input.
@@ -68,15 +82,25 @@ fn what_isnt_called_cannot_fail(rt: HostRuntime) -> Result<(), Fail> {
         (0, 0, 2, Status::Done),
     ];
     for (file, read, write, status) in table {
-        let mut case = with_faults(file, read, write);
-        case.words = &[b"compile", b"SPEC"];
-        let ran = outcome(rt.alloc(), &case)?;
+        let ran = outcome(rt.alloc(), &compiling(file, read, write))?;
         assert_eq!(rt; ran.status, status);
         assert_eq!(rt; ran.out.bytes().is_empty(), status != Status::Done);
     }
-    // An empty log asks for no write.
-    let mut case = with_faults(0, 0, 1);
-    case.input = b"";
+    Ok(())
+}
+
+#[test]
+fn an_empty_log_asks_for_no_write(rt: HostRuntime) -> Result<(), Fail> {
+    let case = Case {
+        words: &[b"monitor", b"SPEC", b"BIND"],
+        spec: s(),
+        bind: s_bind(),
+        input: b"",
+        most: 1,
+        failing_read_of_file: 0,
+        failing_read: 0,
+        failing_write: 1,
+    };
     assert_eq!(rt; outcome(rt.alloc(), &case)?.status, Status::Done);
     Ok(())
 }

@@ -1,5 +1,7 @@
-use crate::case::{Case, outcome};
+use crate::case::{Case, Ran, outcome};
+use std::alloc::Global;
 use std::test::Fail;
+use sy_base::Memory;
 use sy_run::Status;
 use sy_samples::{s, s_bind, s_compiled};
 
@@ -105,12 +107,38 @@ const COMPILE: &[&[u8]] = &[b"compile", b"SPEC"];
 /// The lines that `compile` doesn't write yet: the order in which the nodes are evaluated.
 const ORDER: &[u8] = b"order Trig(oPay)\norder Act(oPay)\norder End(oPay)\norder Contract\n";
 
+/// A run of `compile` without faults.
+fn compiled(alloc: Global, spec: &[u8]) -> Result<Ran, Memory> {
+    let case = Case {
+        words: COMPILE,
+        spec,
+        bind: b"",
+        input: b"",
+        most: 100,
+        failing_read_of_file: 0,
+        failing_read: 0,
+        failing_write: 0,
+    };
+    outcome(alloc, &case)
+}
+
+#[test]
+fn a_canonical_text_is_compiled_to_itself(rt: HostRuntime) -> Result<(), Fail> {
+    let canonical = s_compiled().strip_suffix(ORDER).unwrap_or(b"");
+    let once = compiled(rt.alloc(), s())?;
+    assert_eq!(rt; once.status, Status::Done);
+    assert_eq!(rt; once.out.bytes(), canonical);
+    let twice = compiled(rt.alloc(), canonical)?;
+    assert_eq!(rt; twice.status, Status::Done);
+    assert_eq!(rt; twice.out.bytes(), canonical);
+    Ok(())
+}
+
 #[test]
 fn words_and_files_are_answered(rt: HostRuntime) -> Result<(), Fail> {
     let big = vec![in rt.alloc(); b' '; 1_048_577]?;
-    let canonical = s_compiled().strip_suffix(ORDER).unwrap_or(b"");
     let limit = vec![in rt.alloc(); b' '; 1_048_576]?;
-    let table: [(&[&[u8]], &[u8], &[u8], Status, &[u8]); 18] = [
+    let table: [(&[&[u8]], &[u8], &[u8], Status, &[u8]); 16] = [
         (&[], s(), s_bind(), Status::Usage, USAGE),
         (&[b"monitor", b"SPEC"], s(), s_bind(), Status::Usage, USAGE),
         (
@@ -204,8 +232,6 @@ fn words_and_files_are_answered(rt: HostRuntime) -> Result<(), Fail> {
             Status::Refused,
             b"refused bind TooBig\n",
         ),
-        (COMPILE, s(), s_bind(), Status::Done, canonical),
-        (COMPILE, canonical, s_bind(), Status::Done, canonical),
         (
             COMPILE,
             b"Domain s",
