@@ -136,29 +136,31 @@ fn a_canonical_text_is_compiled_to_itself(rt: HostRuntime) -> Result<(), Fail> {
 
 #[test]
 fn words_and_files_are_answered(rt: HostRuntime) -> Result<(), Fail> {
+    let spec = Vec::from_slice(rt.alloc(), s())?;
+    let bind = Vec::from_slice(rt.alloc(), s_bind())?;
     let big = vec![in rt.alloc(); b' '; 1_048_577]?;
     let limit = vec![in rt.alloc(); b' '; 1_048_576]?;
     let table: [(&[&[u8]], &[u8], &[u8], Status, &[u8]); 16] = [
-        (&[], s(), s_bind(), Status::Usage, USAGE),
-        (&[b"monitor", b"SPEC"], s(), s_bind(), Status::Usage, USAGE),
+        (&[], &spec, &bind, Status::Usage, USAGE),
+        (&[b"monitor", b"SPEC"], &spec, &bind, Status::Usage, USAGE),
         (
             &[b"compile", b"SPEC", b"BIND"],
-            s(),
-            s_bind(),
+            &spec,
+            &bind,
             Status::Usage,
             USAGE,
         ),
         (
             &[b"monitor", b"NONE", b"BIND"],
-            s(),
-            s_bind(),
+            &spec,
+            &bind,
             Status::ReadFault,
             b"",
         ),
         (
             &[b"monitor", b"SPEC", b"NONE"],
-            s(),
-            s_bind(),
+            &spec,
+            &bind,
             Status::ReadFault,
             b"",
         ),
@@ -172,41 +174,41 @@ fn words_and_files_are_answered(rt: HostRuntime) -> Result<(), Fail> {
         (
             MONITOR,
             b"Domain s\nParty isA Role;\nPaid is An Event;\n",
-            s_bind(),
+            &bind,
             Status::Refused,
             b"refused spec 3:6 SyntaxFault is\n",
         ),
         (
             MONITOR,
             b"Domain s\n  @",
-            s_bind(),
+            &bind,
             Status::Refused,
             b"refused spec 2:3 LexFault\n",
         ),
         (
             MONITOR,
             b"Domain d endDomain Contract C() unit Day endContract",
-            s_bind(),
+            &bind,
             Status::Refused,
             b"refused spec NotYet\n",
         ),
         (
             MONITOR,
             b"Domain s // the first\nParty isAn Role; Paid isA Event; endDomain Contract S ( ) unit Day Declarations a: Party; b: Party; paid: Paid; Obligations oPay: O(a, b, (true), happensBefore(paid, 2024-03-11)); Powers endContract",
-            s_bind(),
+            &bind,
             Status::Done,
             b"",
         ),
         (
             MONITOR,
-            s(),
+            &spec,
             b"start 2024-03-01;\nprice := 100;\n",
             Status::Refused,
             b"refused bind NotYet\n",
         ),
         (
             MONITOR,
-            s(),
+            &spec,
             b"start 2024-03-01\n",
             Status::Refused,
             b"refused bind 2:1 SyntaxFault\n",
@@ -214,20 +216,20 @@ fn words_and_files_are_answered(rt: HostRuntime) -> Result<(), Fail> {
         (
             MONITOR,
             &big,
-            s_bind(),
+            &bind,
             Status::Refused,
             b"refused spec TooBig\n",
         ),
         (
             MONITOR,
             &limit,
-            s_bind(),
+            &bind,
             Status::Refused,
             b"refused spec 1:1048577 SyntaxFault\n",
         ),
         (
             MONITOR,
-            s(),
+            &spec,
             &big,
             Status::Refused,
             b"refused bind TooBig\n",
@@ -235,7 +237,7 @@ fn words_and_files_are_answered(rt: HostRuntime) -> Result<(), Fail> {
         (
             COMPILE,
             b"Domain s",
-            s_bind(),
+            &bind,
             Status::Refused,
             b"refused spec 1:9 SyntaxFault\n",
         ),
