@@ -671,8 +671,7 @@ fn prints_what_it_reads(rt: HostRuntime) -> Result<(), Fail> {
 fn prints_the_sample_contracts(rt: HostRuntime) -> Result<(), Fail> {
     let alloc = rt.alloc();
     let first_sale = printed(alloc, s())?;
-    assert!(rt; s_compiled().starts_with(first_sale.bytes()));
-    let left = &s_compiled()[first_sale.bytes().len()..];
+    let left = s_compiled().strip_prefix(first_sale.bytes()).unwrap_or(b"");
     assert!(rt; left.starts_with(b"order "));
     let meat_sale = printed(alloc, m())?;
     assert!(rt; meat_sale.bytes().len() < 10000);
