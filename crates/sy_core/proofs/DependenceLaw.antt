@@ -207,14 +207,20 @@ module _ (point : ℤ) (happenings : List What) (state : Target → StateOf) (be
 
     -- one row of the contract each
     contract_same : (kind : Kind) → AgreeOn s t (contract_reads deed kind) → contract_fires deed m kind ≡ contract_fires deed n kind
+    contract_same Exerted h = refl
+    contract_same Triggered h = refl
+    contract_same Activated h = refl
     contract_same Resumed h = let b = by_same Verbs.Resumes T.Contract h in λ j. was m T.Contract S.Suspension && b j
     contract_same Suspended h = let b = by_same Verbs.Suspends T.Contract h in λ j. was m T.Contract S.InEffect && b j
+    contract_same Fulfilled h = refl
+    contract_same Violated h = refl
+    contract_same Expired h = refl
+    contract_same Discharged h = refl
     contract_same Terminated h = by_same Verbs.Terminates T.Contract h
     contract_same Completed h =
         let a = all_settled_same (awaited deed) h.1.1 in
         let b = any_begun_same (awaited deed) h.1.1 in
         λ j. was m T.Contract S.InEffect && not (h.0 j) && not (h.1.0 j) && (a j && b j)
-    contract_same _ h = refl
 
     -- one row of a position each
     position_same : (i : ℕ) (p : Position) (kind : Kind) → AgreeOn s t (position_reads deed i p kind) → position_fires deed m before i p kind ≡ position_fires deed n before i p kind

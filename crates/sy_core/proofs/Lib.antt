@@ -4,3 +4,10 @@ pub mod Mentions
 pub mod OrderLaw
 pub mod DependenceLaw
 pub mod RoundsLaw
+pub mod Listing
+pub mod Nodes
+pub mod EventHomes
+pub mod EventsInOrder
+pub mod EventCount
+pub mod EventOrderLaw
+pub mod Names

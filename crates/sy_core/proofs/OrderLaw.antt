@@ -11,12 +11,12 @@ pub record IsInOrder {E : Type 0} (condition : (E → Bool) → E → Bool) (ord
   pub others : (e : E) → (Among order e → ⊥) → (s : E → Bool) → condition s e ≡ false
 
 -- what is in two lists together is in one of them
-among_append : {E : Type 0} (xs ys : List E) (d : E) → Among (xs ++ ys) d → Among xs d ⊎ Among ys d
+pub among_append : {E : Type 0} (xs ys : List E) (d : E) → Among (xs ++ ys) d → Among xs d ⊎ Among ys d
 among_append [] ys d h = inr h
 among_append (x ∷ xs) ys d (inl e) = inl (inl e)
 among_append (x ∷ xs) ys d (inr m) = elim (among_append xs ys d m) [ inl a ↦ inl (inr a) | inr b ↦ inr b ]
 
-append_none : {E : Type 0} (xs : List E) → xs ++ [] ≡ xs
+pub append_none : {E : Type 0} (xs : List E) → xs ++ [] ≡ xs
 append_none [] = refl
 append_none (x ∷ xs) = ap (λ ys. x ∷ ys) (append_none xs)
 

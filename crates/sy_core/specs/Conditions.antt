@@ -45,23 +45,27 @@ acts_on_contract (G.Duty consequent) = false
 
 -- the form is that of a power
 abbrev pub is_power : Form → Bool
+is_power Obligation = false
+is_power Surviving = false
 is_power Power = true
-is_power _ = false
 
 -- the form is that of an obligation, surviving or not
 abbrev pub is_obligation : Form → Bool
+is_obligation Obligation = true
+is_obligation Surviving = true
 is_obligation Power = false
-is_obligation _ = true
 
 -- the form is that of a surviving obligation
 abbrev pub survives : Form → Bool
+survives Obligation = false
 survives Surviving = true
-survives _ = false
+survives Power = false
 
 -- the form is that of an obligation that doesn't survive: these the contract's completion waits for
 abbrev pub is_awaited : Form → Bool
 is_awaited Obligation = true
-is_awaited _ = false
+is_awaited Surviving = false
+is_awaited Power = false
 
 -- a remedy of an obligation is an obligation whose trigger names its violation, anywhere in it
 abbrev pub is_remedy : Target → Position → Bool
@@ -70,10 +74,15 @@ is_remedy violated p = is_obligation p.form && list_any (is_violation_of violate
 -- an obligation in this state is settled: not begun, fulfilled, discharged, or violated and remedied
 abbrev pub is_settled : StateOf → Bool → Bool
 is_settled S.Null remedied = true
+is_settled S.Create remedied = false
+is_settled S.InEffect remedied = false
+is_settled S.Suspension remedied = false
 is_settled S.Fulfillment remedied = true
-is_settled S.Discharge remedied = true
 is_settled S.Violation remedied = remedied
-is_settled _ remedied = false
+is_settled S.Discharge remedied = true
+is_settled S.SuccessfulTermination remedied = false
+is_settled S.UnsuccessfulTermination remedied = false
+is_settled S.Form remedied = false
 
 -- the verdict of what a position demands; a power demands nothing, so that it stays Open
 abbrev pub duty_verdict : TimeUnit → Moment → List Moment → Goal → Verdict
@@ -152,14 +161,20 @@ module _ (deed : Deed) (now : Moment) where
   abbrev pub is_complete : Bool
   is_complete = all_settled && any_begun
 
-  -- the contract's events, one equation a row; it has no others
+  -- the contract's events, one equation a row
   abbrev pub contract_fires : Kind → Bool
+  contract_fires Exerted = false
+  contract_fires Triggered = false
+  contract_fires Activated = false
   contract_fires Resumed = was now T.Contract S.Suspension && by Verbs.Resumes T.Contract
   contract_fires Suspended = was now T.Contract S.InEffect && by Verbs.Suspends T.Contract
+  contract_fires Fulfilled = false
+  contract_fires Violated = false
+  contract_fires Expired = false
+  contract_fires Discharged = false
   contract_fires Terminated = by Verbs.Terminates T.Contract
   contract_fires Completed =
       was now T.Contract S.InEffect && not (happened now Suspended T.Contract) && not (happened now Terminated T.Contract) && is_complete
-  contract_fires _ = false
 
   -- the events of position number i, one equation a row; before are the moments before now
   module _ (before : List Moment) (i : ℕ) (p : Position) where

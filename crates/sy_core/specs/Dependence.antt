@@ -34,14 +34,21 @@ module _ (deed : Deed) where
 
   -- what the condition of an event of the contract looks at, one equation a row
   abbrev pub contract_reads : Kind → List InternalEvent
+  contract_reads Exerted = []
+  contract_reads Triggered = []
+  contract_reads Activated = []
   contract_reads Resumed = exertions Verbs.Resumes T.Contract
   contract_reads Suspended = exertions Verbs.Suspends T.Contract
+  contract_reads Fulfilled = []
+  contract_reads Violated = []
+  contract_reads Expired = []
+  contract_reads Discharged = []
   contract_reads Terminated = exertions Verbs.Terminates T.Contract
   contract_reads Completed = (Suspended, T.Contract) ∷ (Terminated, T.Contract) ∷ completion_reads
-  contract_reads _ = []
 
   -- what the condition of an event of position number i looks at, one equation a row
   abbrev pub position_reads : ℕ → Position → Kind → List InternalEvent
+  position_reads i p Exerted = []
   position_reads i p Triggered = names_of p.trigger ++ exertions Verbs.Triggers (T.Position i)
   position_reads i p Activated = (Triggered, T.Position i) ∷ names_of p.antecedent
   position_reads i p Resumed = exertions Verbs.Resumes (T.Position i)
@@ -53,7 +60,7 @@ module _ (deed : Deed) where
   position_reads i p Discharged = (Triggered, T.Position i) ∷ exertions Verbs.Discharges (T.Position i)
   position_reads i p Terminated =
       (Triggered, T.Position i) ∷ (Exerted, T.Position i) ∷ (exertions Verbs.Terminates (T.Position i) ++ contract_ends p.form)
-  position_reads i p _ = []
+  position_reads i p Completed = []
 
   -- nothing, for a position that isn't there
   abbrev pub reads_of : ℕ → Option Position → Kind → List InternalEvent

@@ -12,4 +12,6 @@ pub mod Dependence
 pub mod Tables
 pub mod Wakes
 pub mod Values
+pub mod Limits
 pub mod Soundness
+pub mod EventOrder

@@ -2,7 +2,7 @@
 use Rattle.std.specs.Prelude.{Bool, true, false, ◌&&◌, ◌==◌, List, [], ◌∷◌, ◌++◌, map}
 use Rattle.std.specs.List.{list_any, flat_map}
 use Rattle.sy_words.specs.declared.kind.Kind.{Kind}
-use Rattle.sy_words.specs.declared.kind.Kind.TheVariants.{Violated}
+use Rattle.sy_words.specs.declared.kind.Kind.TheVariants.{Exerted, Triggered, Activated, Resumed, Suspended, Fulfilled, Violated, Expired, Discharged, Terminated, Completed}
 use Rattle.sy_core.specs.declared.kind.Target.{Target}
 use Rattle.sy_core.specs.declared.kind.Target.TheVariants as T
 use Rattle.sy_core.specs.declared.event.Ev.{Ev}
@@ -91,11 +91,16 @@ dates_of_duty (G.Act act) = []
 
 -- whether one proposition has a holds, with the answer of each part in its place
 abbrev pub holds_step : Prop-F Bool → Bool
+holds_step (P.Const b) = false
 holds_step (P.Not b) = b
 holds_step (P.All bs) = list_any (λ b. b) bs
 holds_step (P.Any bs) = list_any (λ b. b) bs
+holds_step (P.Happens e) = false
+holds_step (P.Before e to) = false
+holds_step (P.After e from) = false
+holds_step (P.Within e from to) = false
+holds_step (P.Occurs s from to) = false
 holds_step (P.Holds s) = true
-holds_step _ = false
 
 -- the proposition has a holds somewhere in it
 abbrev pub has_holds : Prop → Bool
@@ -103,8 +108,17 @@ has_holds = fold-Prop Bool holds_step
 
 -- the kind is that of a violation
 abbrev pub is_violation : Kind → Bool
+is_violation Exerted = false
+is_violation Triggered = false
+is_violation Activated = false
+is_violation Resumed = false
+is_violation Suspended = false
+is_violation Fulfilled = false
 is_violation Violated = true
-is_violation _ = false
+is_violation Expired = false
+is_violation Discharged = false
+is_violation Terminated = false
+is_violation Completed = false
 
 -- the event is the violation of a target
 abbrev pub is_violation_of : Target → InternalEvent → Bool

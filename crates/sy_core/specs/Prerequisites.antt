@@ -8,7 +8,7 @@ use Rattle.sy_words.specs.declared.kind.Kind.TheVariants.{Exerted, Triggered, Ac
 use Rattle.sy_core.specs.declared.kind.Target.{Target}
 use Rattle.sy_core.specs.declared.kind.Target.TheVariants as T
 use Rattle.sy_words.specs.declared.form.Form.{Form}
-use Rattle.sy_words.specs.declared.form.Form.TheVariants.{Power}
+use Rattle.sy_words.specs.declared.form.Form.TheVariants.{Obligation, Surviving, Power}
 use Rattle.sy_words.specs.declared.verb.Verb.{Verb}
 use Rattle.sy_words.specs.declared.verb.Verb.TheVariants as Verbs
 use Rattle.sy_core.specs.declared.position.Position.{Position}
@@ -40,8 +40,9 @@ obligation_nodes i = Trig i ∷ Act i ∷ End i ∷ []
 
 -- the nodes of position number i
 abbrev pub nodes_of : Form → ℕ → List Node
+nodes_of Obligation i = obligation_nodes i
+nodes_of Surviving i = obligation_nodes i
 nodes_of Power i = Exert i ∷ Trig i ∷ Act i ∷ End i ∷ []
-nodes_of _ i = obligation_nodes i
 
 -- the exertions of some powers
 abbrev pub exertion_nodes : List (ℕ × Position) → List Node
@@ -49,8 +50,14 @@ exertion_nodes powers = map (λ n. Exert n.0) powers
 
 -- the exertion of the position itself, where it is a power
 abbrev pub own_exert : Form → ℕ → List Node
+own_exert Obligation i = []
+own_exert Surviving i = []
 own_exert Power i = Exert i ∷ []
-own_exert _ i = []
+
+-- the node that is there, in a list
+abbrev pub node_list : Option Node → List Node
+node_list None = []
+node_list (Some node) = node ∷ []
 
 module _ (deed : Deed) where
   -- the nodes, by number
@@ -76,11 +83,17 @@ module _ (deed : Deed) where
 
   -- the nodes of an event of the contract
   abbrev pub contract_event_nodes : Kind → List Node
+  contract_event_nodes Exerted = []
+  contract_event_nodes Triggered = []
+  contract_event_nodes Activated = []
   contract_event_nodes Resumed = exerts Verbs.Resumes T.Contract
   contract_event_nodes Suspended = exerts Verbs.Suspends T.Contract
+  contract_event_nodes Fulfilled = []
+  contract_event_nodes Violated = []
+  contract_event_nodes Expired = []
+  contract_event_nodes Discharged = []
   contract_event_nodes Terminated = exerts Verbs.Terminates T.Contract
   contract_event_nodes Completed = Contract ∷ []
-  contract_event_nodes _ = []
 
   -- the node of an event of position number i
   abbrev pub position_event_nodes : ℕ → Kind → List Node
@@ -144,6 +157,14 @@ module _ (deed : Deed) where
   abbrev pub numbered_needs : ℕ → List ℕ
   numbered_needs k = numbered_needs_of (slice_get nodes k)
 
-  -- the order in which the nodes of a point are evaluated
+  -- the order in which the nodes of a point are evaluated, by number
   abbrev pub order_of : List ℕ
   order_of = order numbered_needs (length nodes)
+
+  -- the nodes with some numbers
+  abbrev pub nodes_at : List ℕ → List Node
+  nodes_at numbers = flat_map (λ k. node_list (slice_get nodes k)) numbers
+
+  -- the nodes in the order in which those of a point are evaluated
+  abbrev pub nodes_in_order : List Node
+  nodes_in_order = nodes_at order_of

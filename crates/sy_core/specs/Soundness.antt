@@ -1,13 +1,13 @@
--- When a deed is sound: its numbers name things that are there, and its dates, durations, values, acts and goals are of their kinds.
--- Later work widens this by: distinct names, the limits on positions, events and atoms, fewer than 2^32 propositions and date terms and
--- items in every other list, and that order is the one of its nodes and has them all.
-use Rattle.std.specs.Prelude.{◌^◌, ◌<◌, Bool, true, false, not, ◌&&◌, List, Option, Some, None, slice_get, length, nat_le, IsTrue, nat_lt}
-use Rattle.std.specs.List.{list_all}
+-- When a deed is sound: its numbers name things that are there, its dates, durations, values, acts and goals are of their kinds, no name
+-- stands for two things, its limits hold, and its order is the one of its nodes and has them all.
+use Rattle.std.specs.Prelude.{◌≡◌, ℕ, Bool, true, false, not, ◌&&◌, List, [], ◌∷◌, Option, Some, None, slice_get, length, map, nat_le, nat_eq, IsTrue, nat_lt}
+use Rattle.std.specs.List.{list_any, list_all}
+use Rattle.std.specs.Cmp.Lexicographic.{pointwise}
 use Rattle.sy_base.specs.declared.time.TimeUnit.{TimeUnit}
 use Rattle.sy_base.specs.declared.time.Duration.{Duration}
 use Rattle.sy_base.specs.Points.{IsDated, is_finer, greatest_count}
 use Rattle.sy_words.specs.declared.kind.Kind.{Kind}
-use Rattle.sy_words.specs.declared.kind.Kind.TheVariants.{Exerted, Resumed, Suspended, Fulfilled, Violated, Discharged, Terminated, Completed}
+use Rattle.sy_words.specs.declared.kind.Kind.TheVariants.{Exerted, Triggered, Activated, Resumed, Suspended, Fulfilled, Violated, Expired, Discharged, Terminated, Completed}
 use Rattle.sy_core.specs.declared.kind.Target.{Target}
 use Rattle.sy_core.specs.declared.kind.Target.TheVariants as T
 use Rattle.sy_core.specs.declared.state.StateOf.{StateOf}
@@ -33,9 +33,13 @@ use Rattle.sy_core.specs.declared.position.Goal.TheVariants as G
 use Rattle.sy_core.specs.declared.position.Position.{Position}
 use Rattle.sy_core.specs.declared.deed.AttrDecl.{AttrDecl}
 use Rattle.sy_core.specs.declared.deed.EventDecl.{EventDecl}
+use Rattle.sy_core.specs.declared.deed.Choices.{Choices}
 use Rattle.sy_core.specs.declared.deed.Deed.{Deed}
 use Rattle.sy_core.specs.Conditions.{is_power, is_obligation}
 use Rattle.sy_core.specs.Values.{is_dated, is_value_of}
+use Rattle.sy_core.specs.Orders.{IsAcyclic}
+use Rattle.sy_core.specs.Prerequisites.{nodes, numbered_needs, order_of}
+use Rattle.sy_core.specs.Limits.{is_few, KeepsLimits}
 
 -- the states that a position of a form can be in
 abbrev pub is_state_of : Form → StateOf → Bool
@@ -52,40 +56,60 @@ is_state_of form S.Form = false
 
 -- the states of the contract that may be named
 abbrev pub is_contract_state : StateOf → Bool
+is_contract_state S.Null = false
+is_contract_state S.Create = false
 is_contract_state S.InEffect = true
 is_contract_state S.Suspension = true
+is_contract_state S.Fulfillment = false
+is_contract_state S.Violation = false
+is_contract_state S.Discharge = false
 is_contract_state S.SuccessfulTermination = true
 is_contract_state S.UnsuccessfulTermination = true
-is_contract_state _ = false
+is_contract_state S.Form = false
 
 -- the kinds of internal event that a position of a form has
 abbrev pub is_kind_of : Form → Kind → Bool
 is_kind_of form Exerted = is_power form
+is_kind_of form Triggered = true
+is_kind_of form Activated = true
+is_kind_of form Resumed = true
+is_kind_of form Suspended = true
 is_kind_of form Fulfilled = is_obligation form
 is_kind_of form Violated = is_obligation form
+is_kind_of form Expired = true
 is_kind_of form Discharged = is_obligation form
+is_kind_of form Terminated = true
 is_kind_of form Completed = false
-is_kind_of form _ = true
 
 -- the kinds of internal event that the contract has
 abbrev pub is_contract_kind : Kind → Bool
+is_contract_kind Exerted = false
+is_contract_kind Triggered = false
+is_contract_kind Activated = false
 is_contract_kind Resumed = true
 is_contract_kind Suspended = true
+is_contract_kind Fulfilled = false
+is_contract_kind Violated = false
+is_contract_kind Expired = false
+is_contract_kind Discharged = false
 is_contract_kind Terminated = true
 is_contract_kind Completed = true
-is_contract_kind _ = false
 
 -- what can be done to a position of a form
 abbrev pub is_act_on : Form → Verb → Bool
+is_act_on form Verbs.Suspends = true
+is_act_on form Verbs.Resumes = true
 is_act_on form Verbs.Discharges = is_obligation form
+is_act_on form Verbs.Terminates = true
 is_act_on form Verbs.Triggers = is_obligation form
-is_act_on form _ = true
 
 -- what can be done to the contract
 abbrev pub is_contract_act : Verb → Bool
+is_contract_act Verbs.Suspends = true
+is_contract_act Verbs.Resumes = true
 is_contract_act Verbs.Discharges = false
+is_contract_act Verbs.Terminates = true
 is_contract_act Verbs.Triggers = false
-is_contract_act _ = true
 
 -- a test of the form of the position that is there
 abbrev pub form_passes : (Form → Bool) → Option Position → Bool
@@ -98,12 +122,26 @@ is_duration_of unit duration = not (is_finer duration.measure unit) && nat_le du
 
 -- the enumeration that a kind of value names is there
 abbrev pub is_sound_kind : Deed → ValueKind → Bool
+is_sound_kind deed K.Number = true
+is_sound_kind deed K.Text = true
+is_sound_kind deed K.Boolean = true
+is_sound_kind deed K.Date = true
 is_sound_kind deed (K.Choice e) = nat_lt e (length deed.choices)
-is_sound_kind deed _ = true
 
--- the kind of each attribute of an event is there
+-- no two names are the same
+abbrev pub are_distinct : List (List ℕ) → Bool
+are_distinct [] = true
+are_distinct (name ∷ later) = not (list_any (pointwise nat_eq name) later) && are_distinct later
+
+-- an event's attributes are few and have names of their own, and the kind of each is there
 abbrev pub is_sound_decl : Deed → EventDecl → Bool
-is_sound_decl deed event = list_all (λ attr. is_sound_kind deed attr.kind) event.attrs
+is_sound_decl deed event =
+    is_few (length event.attrs) && are_distinct (map (λ attr. attr.name) event.attrs)
+    && list_all (λ attr. is_sound_kind deed attr.kind) event.attrs
+
+-- an enumeration's constants are few and have names of their own
+abbrev pub are_sound_choices : Choices → Bool
+are_sound_choices choices = is_few (length choices.names) && are_distinct choices.names
 
 -- a guard's attribute is there, and its value is of the attribute's kind
 abbrev pub is_guard_at : Deed → Guard → Option AttrDecl → Bool
@@ -123,7 +161,7 @@ module _ (deed : Deed) where
 
   -- the event is there, and its guards are sound
   abbrev pub is_sound_event : Ev → Bool
-  is_sound_event (Outer event guards) = are_guards_at deed guards (slice_get deed.events event)
+  is_sound_event (Outer event guards) = is_few (length guards) && are_guards_at deed guards (slice_get deed.events event)
   is_sound_event (Inner kind target) = is_sound_inner kind target
 
   -- the beginning is a date, or a sound event
@@ -175,12 +213,23 @@ module _ (deed : Deed) where
   abbrev pub is_sound_position : Position → Bool
   is_sound_position p = is_sound_prop p.trigger && is_sound_prop p.antecedent && is_sound_goal p.form p.goal
 
+-- no name stands for two things of the same sort
+pub record HasNamesApart (deed : Deed) : Type 0 where
+  pub events : IsTrue (are_distinct (map (λ event. event.name) deed.events))
+  pub positions : IsTrue (are_distinct (map (λ p. p.name) deed.positions))
+
+-- the order of evaluation is the one of the deed's nodes, and has them all
+pub record IsOrdered (deed : Deed) : Type 0 where
+  pub listed : deed.order ≡ order_of deed
+  pub complete : IsAcyclic (numbered_needs deed) (length (nodes deed))
+
 -- the deed is sound
 pub record IsSound (deed : Deed) : Type 0 where
-  pub few_positions : length deed.positions < 2 ^ 32
-  pub few_events : length deed.events < 2 ^ 32
-  pub few_posts : length deed.posts < 2 ^ 32
+  pub limits : KeepsLimits deed
+  pub names : HasNamesApart deed
   pub start_dated : IsDated deed.unit deed.start
   pub events_sound : IsTrue (list_all (is_sound_decl deed) deed.events)
+  pub choices_sound : IsTrue (list_all are_sound_choices deed.choices)
   pub positions_sound : IsTrue (list_all (is_sound_position deed) deed.positions)
   pub posts_sound : IsTrue (list_all (is_sound_prop deed) deed.posts)
+  pub ordered : IsOrdered deed

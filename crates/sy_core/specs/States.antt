@@ -5,7 +5,7 @@ use Rattle.std.specs.Prelude.{ℕ, Bool, ◌==◌, List, [], ◌∷◌, if◌the
 use Rattle.sy_words.specs.declared.kind.Kind.{Kind}
 use Rattle.sy_words.specs.declared.kind.Kind.TheVariants.{Exerted, Triggered, Activated, Resumed, Suspended, Fulfilled, Violated, Expired, Discharged, Terminated, Completed}
 use Rattle.sy_words.specs.declared.form.Form.{Form}
-use Rattle.sy_words.specs.declared.form.Form.TheVariants.{Obligation, Power}
+use Rattle.sy_words.specs.declared.form.Form.TheVariants.{Obligation, Surviving, Power}
 use Rattle.sy_core.specs.declared.state.StateOf.{StateOf}
 use Rattle.sy_core.specs.declared.state.StateOf.TheVariants as S
 
@@ -26,10 +26,15 @@ state_number S.Form = 9
 abbrev pub same_state : StateOf → StateOf → Bool
 same_state a b = state_number a == state_number b
 
+-- the kinds of internal event of an obligation, in the order of kinds
+abbrev pub obligation_kinds : List Kind
+obligation_kinds = Triggered ∷ Activated ∷ Resumed ∷ Suspended ∷ Fulfilled ∷ Violated ∷ Expired ∷ Discharged ∷ Terminated ∷ []
+
 -- the kinds of internal event of a position of a form, in the order of kinds
 abbrev pub kinds_of : Form → List Kind
+kinds_of Obligation = obligation_kinds
+kinds_of Surviving = obligation_kinds
 kinds_of Power = Exerted ∷ Triggered ∷ Activated ∷ Resumed ∷ Suspended ∷ Expired ∷ Terminated ∷ []
-kinds_of _ = Triggered ∷ Activated ∷ Resumed ∷ Suspended ∷ Fulfilled ∷ Violated ∷ Expired ∷ Discharged ∷ Terminated ∷ []
 
 -- the kinds of internal event of the contract, in the order of kinds
 abbrev pub contract_kinds : List Kind
@@ -37,8 +42,9 @@ contract_kinds = Resumed ∷ Suspended ∷ Terminated ∷ Completed ∷ []
 
 -- an expired power has failed, and an expired obligation is discharged
 abbrev pub expired_state : Form → StateOf
+expired_state Obligation = S.Discharge
+expired_state Surviving = S.Discharge
 expired_state Power = S.UnsuccessfulTermination
-expired_state _ = S.Discharge
 
 -- the state that an event of each kind gives
 abbrev pub state_by : Form → Kind → StateOf

@@ -13,6 +13,7 @@ mod position;
 mod proposition;
 mod remedy;
 mod rounds_law;
+mod soundness_law;
 mod state;
 mod table;
 #[cfg(test)]
@@ -34,6 +35,7 @@ pub use position::{Act, Goal, Position};
 pub use proposition::{Prop, Situation};
 pub use remedy::{has_holds, is_remedy};
 pub use rounds_law::rounds_settle;
+pub use soundness_law::soundness_bounds;
 pub use sqlite_items::{Boxed, Items};
 pub use state::{StateOf, copy_states, is_same_state};
 pub use sy_words::{Cmp, Form, Kind, Verb};
