@@ -1,4 +1,4 @@
-ghost use Rattle.std.specs.Prelude.{◌≡◌, ◌+ℤ◌, ℕ, suc, pos, false, Some, List, map, IfOk, OnOk, OnErr, slice_get, length, ◌<◌};
+ghost use Rattle.std.specs.Prelude.{◌≡◌, ◌+ℤ◌, ℕ, suc, pos, false, Some, List, map, IfOk, OnOk, OnErr, slice_get, length, ◌<◌, ◌^◌};
 ghost use Rattle.sy_base.specs.Points.{IsDated};
 ghost use Rattle.sy_core.specs.declared.deed.Deed.{Deed};
 ghost use Rattle.sy_core.specs.declared.event.Ev.TheVariants.{Inner};
@@ -6,7 +6,7 @@ ghost use Rattle.sy_core.specs.declared.happening.Happening.{Happening};
 ghost use Rattle.sy_core.specs.declared.proposition.Prop.{Prop};
 ghost use Rattle.sy_core.specs.Propositions.{verdict_at};
 ghost use Rattle.sy_core.specs.Chronicle.{first_state, chronicle, state_at, moment_at};
-ghost use Rattle.sy_core.specs.Soundness.{IsSound};
+ghost use Rattle.sy_core.specs.Soundness.{HasSoundParts};
 ghost use Rattle.sy_core.specs.Tables.{states_of};
 ghost use Rattle.sy_axioms.specs.Standing.{StandsFor, HasExactly, HasDatedPoints, next_point};
 
@@ -58,7 +58,7 @@ fn copy_happenings(alloc: Global, at: &[Happening]) -> Result<List<What>, Memory
 impl Plain {
     /// An evaluator that stands at the deed's start.
     pub fn new(alloc: Global, deed: &Deed) -> Result<Plain, Memory>
-        requires { IsSound deed.now }
+        requires { HasSoundParts deed.now }
         ensures start { IfOk result
             (λ plain. (narrative : List Happening) → StandsFor plain deed.now narrative 0) }
         ensures made { IfOk result (λ plain. HasDatedPoints plain deed.now) }
@@ -122,7 +122,7 @@ impl Plain {
     /// The verdict of the deed's postcondition with this number at the last point that was evaluated.
     /// Before the first one it is Open.
     pub fn post(&self, deed: &Deed, number: u32) -> Verdict
-        requires sound { IsSound deed.now }
+        requires sound { HasSoundParts deed.now }
         requires made { HasDatedPoints self.now deed.now }
         requires post { number < length deed.now.posts }
         ensures none { (narrative : List Happening) → StandsFor self.now deed.now narrative 0
@@ -149,7 +149,8 @@ impl Plain {
     /// Evaluates the next point, which is a date of the deed's unit and at which exactly these
     /// happenings stand. On want of memory all stays as it was.
     pub fn step(&mut self, deed: &Deed, at: &[Happening]) -> Result<(), Memory>
-        requires sound { IsSound deed.now }
+        requires few { length deed.now.positions < 2 ^ 32 }
+        requires sound { HasSoundParts deed.now }
         requires made { HasDatedPoints self.old deed.now }
         requires dated { IsDated deed.now.unit (next_point self.old) }
         ensures next { IfOk result

@@ -1,7 +1,7 @@
 ghost use Rattle.std.specs.Prelude.{◌≡◌, ◌<◌, ◌^◌, map, length, IfOk, IsTrue};
 ghost use Rattle.sy_core.specs.Conditions.{count_events};
 ghost use Rattle.sy_core.specs.Chronicle.{assuming, internal_events};
-ghost use Rattle.sy_core.specs.Soundness.{IsSound, is_sound_position};
+ghost use Rattle.sy_core.specs.Soundness.{is_sound_position};
 ghost use Rattle.sy_axioms.specs.Machine.KeptMoments.{moment_of, state_in, fired_by, fired_from, round_of};
 ghost use Rattle.sy_axioms.specs.Machine.Presents.{moment_now, moments_before, contract_fires_now, fires_now};
 ghost use Rattle.sy_axioms.specs.Machine.Ready.{IsReady};

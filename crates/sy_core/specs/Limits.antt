@@ -1,7 +1,10 @@
--- The limits of a deed: at most 500 positions, 500 declared events and 4,000 atoms, and fewer than 2^32 of all else.
+-- The limits of a deed: at most 500 positions, 500 declared events and 4,000 atoms, and fewer than 2^32 propositions, guards, date terms,
+-- postconditions, attributes of an event, enumerations and constants of one.
 -- An atom is an event that is named, in time too, an occurs or a holds, in a position or a postcondition.
-use Rattle.std.specs.Prelude.{ℕ, ◌+◌, ◌^◌, ◌<◌, ◌≤◌, Bool, List, length, nat_lt}
-use Rattle.std.specs.List.{sum, sum_by}
+use Rattle.std.specs.Prelude.{ℕ, ◌+◌, ◌^◌, ◌<◌, ◌≤◌, Bool, List, length, nat_lt, IsTrue}
+use Rattle.std.specs.List.{sum, sum_by, list_all}
+use Rattle.sy_core.specs.declared.event.Ev.{Ev}
+use Rattle.sy_core.specs.declared.event.Ev.TheVariants.{Outer, Inner}
 use Rattle.sy_core.specs.declared.date_term.Base.{Base}
 use Rattle.sy_core.specs.declared.date_term.Base.TheVariants.{Fixed, First}
 use Rattle.sy_core.specs.declared.date_term.DateTerm.{DateTerm}
@@ -45,6 +48,37 @@ atoms_step (P.Holds s) = 1
 abbrev pub atoms_of : Prop → ℕ
 atoms_of = fold-Prop ℕ atoms_step
 
+-- the guards of an event
+abbrev pub guards_of_event : Ev → ℕ
+guards_of_event (Outer event guards) = length guards
+guards_of_event (Inner kind target) = 0
+
+-- the guards of what a date term begins with
+abbrev pub guards_of_base : Base → ℕ
+guards_of_base (Fixed point) = 0
+guards_of_base (First e) = guards_of_event e
+
+-- the guards of a date term
+abbrev pub guards_of_date : DateTerm → ℕ
+guards_of_date term = guards_of_base term.base
+
+-- the guards of one proposition, with those of each part in its place
+abbrev pub guards_step : Prop-F ℕ → ℕ
+guards_step (P.Const b) = 0
+guards_step (P.Not n) = n
+guards_step (P.All ns) = sum ns
+guards_step (P.Any ns) = sum ns
+guards_step (P.Happens e) = guards_of_event e
+guards_step (P.Before e to) = guards_of_event e + guards_of_date to
+guards_step (P.After e from) = guards_of_event e + guards_of_date from
+guards_step (P.Within e from to) = guards_of_event e + guards_of_date from + guards_of_date to
+guards_step (P.Occurs s from to) = guards_of_date from + guards_of_date to
+guards_step (P.Holds s) = 0
+
+-- the guards of a proposition
+abbrev pub guards_of : Prop → ℕ
+guards_of = fold-Prop ℕ guards_step
+
 -- how many one proposition is, with those of each part in its place
 abbrev pub size_step : Prop-F ℕ → ℕ
 size_step (P.Const b) = 1
@@ -81,6 +115,9 @@ pub record KeepsLimits (deed : Deed) : Type 0 where
   pub events : length deed.events ≤ 500
   pub atoms : of_deed atoms_of deed ≤ 4000
   pub propositions : of_deed size_of deed < 2 ^ 32
+  pub guards : of_deed guards_of deed < 2 ^ 32
   pub dates : length (dates_of_deed deed) < 2 ^ 32
-  pub choices : length deed.choices < 2 ^ 32
   pub posts : length deed.posts < 2 ^ 32
+  pub attributes : IsTrue (list_all (λ event. is_few (length event.attrs)) deed.events)
+  pub enumerations : length deed.choices < 2 ^ 32
+  pub constants : IsTrue (list_all (λ choices. is_few (length choices.names)) deed.choices)

@@ -33,13 +33,12 @@ use Rattle.sy_core.specs.declared.position.Goal.TheVariants as G
 use Rattle.sy_core.specs.declared.position.Position.{Position}
 use Rattle.sy_core.specs.declared.deed.AttrDecl.{AttrDecl}
 use Rattle.sy_core.specs.declared.deed.EventDecl.{EventDecl}
-use Rattle.sy_core.specs.declared.deed.Choices.{Choices}
 use Rattle.sy_core.specs.declared.deed.Deed.{Deed}
 use Rattle.sy_core.specs.Conditions.{is_power, is_obligation}
 use Rattle.sy_core.specs.Values.{is_dated, is_value_of}
 use Rattle.sy_core.specs.Orders.{IsAcyclic}
 use Rattle.sy_core.specs.Prerequisites.{nodes, numbered_needs, order_of}
-use Rattle.sy_core.specs.Limits.{is_few, KeepsLimits}
+use Rattle.sy_core.specs.Limits.{KeepsLimits}
 
 -- the states that a position of a form can be in
 abbrev pub is_state_of : Form → StateOf → Bool
@@ -133,15 +132,9 @@ abbrev pub are_distinct : List (List ℕ) → Bool
 are_distinct [] = true
 are_distinct (name ∷ later) = not (list_any (pointwise nat_eq name) later) && are_distinct later
 
--- an event's attributes are few and have names of their own, and the kind of each is there
+-- the kind of each attribute of an event is there
 abbrev pub is_sound_decl : Deed → EventDecl → Bool
-is_sound_decl deed event =
-    is_few (length event.attrs) && are_distinct (map (λ attr. attr.name) event.attrs)
-    && list_all (λ attr. is_sound_kind deed attr.kind) event.attrs
-
--- an enumeration's constants are few and have names of their own
-abbrev pub are_sound_choices : Choices → Bool
-are_sound_choices choices = is_few (length choices.names) && are_distinct choices.names
+is_sound_decl deed event = list_all (λ attr. is_sound_kind deed attr.kind) event.attrs
 
 -- a guard's attribute is there, and its value is of the attribute's kind
 abbrev pub is_guard_at : Deed → Guard → Option AttrDecl → Bool
@@ -161,7 +154,7 @@ module _ (deed : Deed) where
 
   -- the event is there, and its guards are sound
   abbrev pub is_sound_event : Ev → Bool
-  is_sound_event (Outer event guards) = is_few (length guards) && are_guards_at deed guards (slice_get deed.events event)
+  is_sound_event (Outer event guards) = are_guards_at deed guards (slice_get deed.events event)
   is_sound_event (Inner kind target) = is_sound_inner kind target
 
   -- the beginning is a date, or a sound event
@@ -213,10 +206,19 @@ module _ (deed : Deed) where
   abbrev pub is_sound_position : Position → Bool
   is_sound_position p = is_sound_prop p.trigger && is_sound_prop p.antecedent && is_sound_goal p.form p.goal
 
--- no name stands for two things of the same sort
+-- each number names a thing that is there, and each date, duration, value, act and goal is of its kind
+pub record HasSoundParts (deed : Deed) : Type 0 where
+  pub start_dated : IsDated deed.unit deed.start
+  pub events_sound : IsTrue (list_all (is_sound_decl deed) deed.events)
+  pub positions_sound : IsTrue (list_all (is_sound_position deed) deed.positions)
+  pub posts_sound : IsTrue (list_all (is_sound_prop deed) deed.posts)
+
+-- no two events, no two positions, no two attributes of one event and no two constants of one enumeration have the same name
 pub record HasNamesApart (deed : Deed) : Type 0 where
   pub events : IsTrue (are_distinct (map (λ event. event.name) deed.events))
   pub positions : IsTrue (are_distinct (map (λ p. p.name) deed.positions))
+  pub attributes : IsTrue (list_all (λ event. are_distinct (map (λ attr. attr.name) event.attrs)) deed.events)
+  pub constants : IsTrue (list_all (λ choices. are_distinct choices.names) deed.choices)
 
 -- the order of evaluation is the one of the deed's nodes, and has them all
 pub record IsOrdered (deed : Deed) : Type 0 where
@@ -225,11 +227,7 @@ pub record IsOrdered (deed : Deed) : Type 0 where
 
 -- the deed is sound
 pub record IsSound (deed : Deed) : Type 0 where
-  pub limits : KeepsLimits deed
+  pub parts : HasSoundParts deed
   pub names : HasNamesApart deed
-  pub start_dated : IsDated deed.unit deed.start
-  pub events_sound : IsTrue (list_all (is_sound_decl deed) deed.events)
-  pub choices_sound : IsTrue (list_all are_sound_choices deed.choices)
-  pub positions_sound : IsTrue (list_all (is_sound_position deed) deed.positions)
-  pub posts_sound : IsTrue (list_all (is_sound_prop deed) deed.posts)
+  pub limits : KeepsLimits deed
   pub ordered : IsOrdered deed
