@@ -122,6 +122,7 @@ impl Plain {
     /// The verdict of the deed's postcondition with this number at the last point that was evaluated.
     /// Before the first one it is Open.
     pub fn post(&self, deed: &Deed, number: u32) -> Verdict
+        requires few { length deed.now.positions < 2 ^ 32 }
         requires sound { HasSoundParts deed.now }
         requires made { HasDatedPoints self.now deed.now }
         requires post { number < length deed.now.posts }

@@ -1,5 +1,5 @@
 -- What holds of the deeds of the first path, and of a narrative of payments.
-use Rattle.std.proofs.Common.{◌≡◌, ℕ, zero, suc, ◌+◌, ℤ, pos, ◌+ℤ◌, int_le, int_eq, Bool, true, false, cond, not, ◌&&◌, ◌||◌, List, [], ◌∷◌, ◌++◌, refl, sym, ◌∙◌, ap, subst, arith, inl, inr}
+use Rattle.std.proofs.Common.{◌≡◌, ℕ, zero, suc, ◌+◌, ◌<◌, ◌^◌, length, ℤ, pos, ◌+ℤ◌, int_le, int_eq, Bool, true, false, cond, not, ◌&&◌, ◌||◌, List, [], ◌∷◌, ◌++◌, refl, sym, ◌∙◌, ap, subst, arith, inl, inr}
 use Rattle.std.specs.List.{Contains}
 use Rattle.std.specs.List.{list_any}
 use Rattle.std.proofs.lemmas.Int.{ints}
@@ -21,7 +21,7 @@ use Rattle.sy_core.specs.Chronicle.{exerts, at_point, chronicle, moment_at}
 use Rattle.sy_core.specs.Moments.{Moment}
 use Rattle.sy_core.specs.Values.{is_dated}
 use Rattle.sy_core.proofs.Members.{Among, contained}
-use Rattle.sy_core.specs.Soundness.{IsSound, is_sound_step, is_sound_prop}
+use Rattle.sy_core.specs.Soundness.{HasSoundParts, is_sound_step, is_sound_prop}
 use Rattle.sy_core.specs.Tables.{is_void, marks, marks_at}
 use Rattle.sy_axioms.proofs.Members.{any_of_kept}
 use Rattle.sy_run.specs.FirstPath.{deed, happens_before, IsFirstDeed}
@@ -45,19 +45,19 @@ module _ (start due : ℤ) (due_dated : IsDated Day due) where
       ∙ fold-roll-Prop Bool (is_sound_step (deed start due)) (P.Before (Outer 0 []) (record { base = Fixed due; plus = [] }))
       ∙ (λ j. (dated_test due due_dated j && true) && true)
 
-  deed_is_sound : IsDated Day start → IsSound (deed start due)
+  deed_is_sound : IsDated Day start → HasSoundParts (deed start due)
   deed_is_sound start_dated = record {
-    few_positions = omega arith;
-    few_events = omega arith;
-    few_posts = omega arith;
     start_dated = start_dated;
     events_sound = refl;
     positions_sound = λ j. ((truth_is_sound (deed start due) j && truth_is_sound (deed start due) j) && (true && duty_is_sound j)) && true;
     posts_sound = refl;
   }
 
-pub first_is_sound : (d : Deed) → IsFirstDeed d → IsSound d
-first_is_sound d first = subst IsSound (sym first.is) (deed_is_sound first.start first.due first.due_dated first.start_dated)
+pub first_is_sound : (d : Deed) → IsFirstDeed d → HasSoundParts d
+first_is_sound d first = subst HasSoundParts (sym first.is) (deed_is_sound first.start first.due first.due_dated first.start_dated)
+
+pub first_is_small : (d : Deed) → IsFirstDeed d → length d.positions < 2 ^ 32
+first_is_small d first = subst (λ (x : Deed). length x.positions < 2 ^ 32) (sym first.is) (omega arith)
 
 pub first_has_no_posts : (d : Deed) → IsFirstDeed d → d.posts ≡ []
 first_has_no_posts d first = ap (λ (x : Deed). x.posts) first.is

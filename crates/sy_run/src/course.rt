@@ -3,7 +3,7 @@ ghost use Rattle.sy_base.specs.Points.{IsDated};
 ghost use Rattle.sy_core.specs.declared.deed.Deed.{Deed as ADeed};
 ghost use Rattle.sy_core.specs.declared.happening.Happening.{Happening};
 ghost use Rattle.sy_core.specs.Chronicle.{moment_at};
-ghost use Rattle.sy_core.specs.Soundness.{IsSound};
+ghost use Rattle.sy_core.specs.Soundness.{HasSoundParts};
 ghost use Rattle.sy_core.specs.Tables.{is_violated, marks_at};
 ghost use Rattle.sy_axioms.specs.Standing.{StandsFor, HasDatedPoints, next_point};
 ghost use Rattle.sy_run.specs.Machine.Course.{HasCome};
@@ -70,7 +70,8 @@ fn go_on(
     point: Point,
     plain: &mut Plain,
 ) -> Result<(), Memory>
-    requires sound { IsSound deed.now }
+    requires few { length deed.now.positions < 2 ^ 32 }
+    requires sound { HasSoundParts deed.now }
     requires made { HasDatedPoints plain.old deed.now }
     requires next { next_point plain.old ≡ point }
     requires dated { IsDated deed.now.unit point }
@@ -86,7 +87,7 @@ fn go_on(
 impl Course {
     /// No point is evaluated.
     fn new(alloc: Global, deed: &Deed) -> Result<Course, Memory>
-        requires { IsSound deed.now }
+        requires { HasSoundParts deed.now }
         ensures start { (noted : List Happening) → IfOk result (λ course. HasCome course deed.now noted 0) }
         ensures made { IfOk result (λ course. HasDatedPoints course.plain deed.now) }
         ensures point { IfOk result (λ course. next_point course.plain ≡ deed.now.start) }
@@ -99,7 +100,8 @@ impl Course {
 
     /// One more point is evaluated.
     fn step(&mut self, alloc: Global, deed: &Deed, entries: &Entries) -> Result<(), Memory>
-        requires sound { IsSound deed.now }
+        requires few { length deed.now.positions < 2 ^ 32 }
+        requires sound { HasSoundParts deed.now }
         requires made { HasDatedPoints self.old.plain deed.now }
         requires dated { IsDated deed.now.unit (next_point self.old.plain) }
         ensures next { (noted : List Happening) (n : ℕ) → Holds entries.now.points noted → HasCome self.old deed.now noted n
@@ -119,7 +121,8 @@ impl Course {
         entries: &Entries,
         points: u32,
     ) -> Result<Course, Memory>
-        requires sound { IsSound deed.now }
+        requires few { length deed.now.positions < 2 ^ 32 }
+        requires sound { HasSoundParts deed.now }
         requires dated { (k : ℕ) → k < points → IsDated deed.now.unit (deed.now.start +ℤ pos k) }
         ensures { (noted : List Happening) → Holds entries.now.points noted
             → IfOk result (λ course. HasCome course deed.now noted points) }

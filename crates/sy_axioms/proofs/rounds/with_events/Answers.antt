@@ -4,7 +4,7 @@ use Rattle.sy_axioms.proofs.rounds.with_events.Goals as goal
 
 pub loop-round-init : goal.loop-round-init
 loop-round-init c = record {
-  ready = record { sound = c.requires.sound; before_dated = c.requires.before_dated; now_dated = c.requires.now_dated };
+  ready = record { few = c.requires.few; sound = c.requires.sound; before_dated = c.requires.before_dated; now_dated = c.requires.now_dated };
   so_far = rw c.none.ensures (before_rounds c.args.deed.now c.args.before.now c.args.moment _ refl);
 }
 
@@ -12,7 +12,7 @@ pub loop-round-preserved : goal.loop-round-preserved
 loop-round-preserved c =
     let ready = c.loop-round.invariant.ready in
     record {
-      ready = record { sound = ready.sound; before_dated = ready.before_dated; now_dated = ready.now_dated };
+      ready = record { few = ready.few; sound = ready.sound; before_dated = ready.before_dated; now_dated = ready.now_dated };
       so_far = after_next c.args.deed.now c.args.before.now c.args.moment c.loop-round.round c.loop-round.now c.loop-round.invariant.so_far c.in_ok-events.events c.in_ok-events.ensures;
     }
 

@@ -3,12 +3,15 @@ use Rattle.std.proofs.lemmas.Int.{to_z-of_z}
 use Rattle.sy_core.specs.Chronicle.{chronicle, moment_at}
 use Rattle.sy_core.specs.Propositions.{verdict_at}
 use Rattle.sy_run.specs.Machine.Course.{HasCome}
-use Rattle.sy_run.proofs.FirstDeeds.{first_is_sound, first_has_no_posts, no_voids}
+use Rattle.sy_run.proofs.FirstDeeds.{first_is_sound, first_is_small, first_has_no_posts, no_voids}
 use Rattle.sy_run.proofs.Printable.{reached}
 use Rattle.sy_run.proofs.table.table_after.Goals as goal
 
 pub of-requires-clause-sound : goal.of-requires-clause-sound
 of-requires-clause-sound c = first_is_sound c.args.deed.now c.requires.first
+
+pub of-requires-clause-few : goal.of-requires-clause-few
+of-requires-clause-few c = first_is_small c.args.deed.now c.requires.first
 
 pub returns : goal.returns
 returns c = λ noted holds.
