@@ -15,3 +15,4 @@ pub mod Values
 pub mod Limits
 pub mod Soundness
 pub mod EventOrder
+pub mod NodeTexts
