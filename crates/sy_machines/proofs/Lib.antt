@@ -1,0 +1,2 @@
+pub mod PositionRows
+pub mod ContractRows

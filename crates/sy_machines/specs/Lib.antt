@@ -1,0 +1,3 @@
+pub mod Fired
+pub mod Rows
+pub mod Given
