@@ -31,14 +31,14 @@ pub record AreInputsOf (inputs : Inputs) (deed : Deed) (now : Moment) (before : 
   pub ends : inputs.ends ≡ by deed now Verbs.Terminates T.Contract
   pub fired : (kind : Kind) → has inputs.fired kind ≡ happened now kind (T.Position i)
 
--- the inputs are those of the contract now
+-- the inputs are those of the contract now, but for complete
 pub record AreContractInputsOf (inputs : ContractInputs) (deed : Deed) (now : Moment) : Type 0 where
   pub resumes : inputs.resumes ≡ by deed now Verbs.Resumes T.Contract
   pub suspends : inputs.suspends ≡ by deed now Verbs.Suspends T.Contract
   pub terminates : inputs.terminates ≡ by deed now Verbs.Terminates T.Contract
-  pub complete : inputs.complete ≡ is_complete deed now
 
--- the contract's suspension and its termination happen now exactly where their conditions are true
-pub record IsContractSettled (deed : Deed) (now : Moment) : Type 0 where
+-- complete is that of the contract now, and its suspension and its termination happen now exactly where their conditions are true
+pub record IsCompletionOf (inputs : ContractInputs) (deed : Deed) (now : Moment) : Type 0 where
+  pub complete : inputs.complete ≡ is_complete deed now
   pub suspended : happened now Suspended T.Contract ≡ contract_fires deed now Suspended
   pub terminated : happened now Terminated T.Contract ≡ contract_fires deed now Terminated

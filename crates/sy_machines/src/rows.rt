@@ -6,7 +6,7 @@ ghost use Rattle.sy_core.specs.States.{same_state};
 ghost use Rattle.sy_core.specs.Moments.{Moment};
 ghost use Rattle.sy_core.specs.Conditions.{survives, position_fires, contract_fires};
 ghost use Rattle.sy_machines.specs.Rows.{is_live, allows_exertion, is_alive, is_in_force, is_created, remains_in_force, row_fires, contract_row_fires};
-ghost use Rattle.sy_machines.specs.Given.{AreInputsOf, AreContractInputsOf, IsContractSettled};
+ghost use Rattle.sy_machines.specs.Given.{AreInputsOf, AreContractInputsOf, IsCompletionOf};
 
 use crate::inputs::{ContractInputs, Inputs};
 use sy_core::{StateOf, is_false, is_obligation, is_power, is_same_state, is_true, survives};
@@ -242,10 +242,10 @@ pub fn fire_contract(kind: Kind, state: StateOf, inputs: &ContractInputs) -> boo
     ensures row { result ≡ contract_row_fires state inputs.now kind }
 
     // Where the inputs are those of the contract at a moment, the row is the event's condition there.
-    // For its completion the moment has its suspension and its termination already.
+    // For its completion the moment also has its suspension and its termination already.
     ensures condition { (deed : Deed) (now : Moment)
         → AreContractInputsOf inputs.now deed now → state ≡ now.state target.Contract
-        → (kind ≡ Kind.Completed → IsContractSettled deed now)
+        → (kind ≡ Kind.Completed → IsCompletionOf inputs.now deed now)
         → result ≡ contract_fires deed now kind }
 {
     contract_row(kind, state, inputs)

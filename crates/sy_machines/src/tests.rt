@@ -73,7 +73,12 @@ fn powers_are_exerted(rt: HostRuntime) {
         (Power, Create, asked, false),
         (Power, Suspension, asked, false),
         (Power, InEffect, under(Suspension, asked), false),
-        (Power, InEffect, under(SuccessfulTermination, on_contract), false),
+        (
+            Power,
+            InEffect,
+            under(SuccessfulTermination, on_contract),
+            false,
+        ),
     ];
     try_rows(&rt, Exerted, &rows);
 }
@@ -309,11 +314,11 @@ fn contracts_change(rt: HostRuntime) {
     }
 }
 
-fn fired(kinds: &[Kind]) -> Fired {
+fn fired(kinds: [Kind; 2]) -> Fired {
+    let [first, second] = kinds;
     let mut fired = Fired::NONE;
-    for kind in kinds {
-        fired.set(*kind);
-    }
+    fired.set(first);
+    fired.set(second);
     fired
 }
 
@@ -352,7 +357,7 @@ fn kinds_give_states(rt: HostRuntime) {
         ),
     ];
     for (form, state, kinds, want) in rows {
-        let next = next_state(form, state, &fired(&kinds));
+        let next = next_state(form, state, &fired(kinds));
         assert_eq!(rt; next, want, "{form:?} {state:?} {kinds:?}");
     }
     for form in [Obligation, Surviving, Power] {
@@ -374,7 +379,7 @@ fn kinds_give_contract_states(rt: HostRuntime) {
         (InEffect, [Completed, Terminated], SuccessfulTermination),
     ];
     for (state, kinds, want) in rows {
-        let next = next_contract(state, &fired(&kinds));
+        let next = next_contract(state, &fired(kinds));
         assert_eq!(rt; next, want, "{state:?} {kinds:?}");
     }
     assert_eq!(rt; next_contract(Suspension, &Fired::NONE), Suspension);
