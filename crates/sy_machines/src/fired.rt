@@ -7,16 +7,27 @@ use sy_words::Kind;
 /// Which kinds of internal event have happened to one target at a point.
 #[derive(Clone, Copy, Debug, PartialEq, Eq)]
 pub struct Fired {
+    /// The power was exerted.
     pub exerted: bool,
+    /// The position was created.
     pub triggered: bool,
+    /// The position came into effect.
     pub activated: bool,
+    /// It was resumed.
     pub resumed: bool,
+    /// It was suspended.
     pub suspended: bool,
+    /// The obligation was kept.
     pub fulfilled: bool,
+    /// The obligation was broken.
     pub violated: bool,
+    /// The position's antecedent failed.
     pub expired: bool,
+    /// The obligation was discharged.
     pub discharged: bool,
+    /// It was terminated.
     pub terminated: bool,
+    /// The contract came to its good end.
     pub completed: bool,
 }
 
