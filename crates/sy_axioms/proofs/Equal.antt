@@ -4,9 +4,9 @@ use Rattle.std.specs.Bool.{Decides}
 use Rattle.std.specs.Cmp.{booleans_Decides}
 use Rattle.std.proofs.lemmas.Bool.Decides.{Decides-and}
 use Rattle.std.proofs.lemmas.Slice.Eq.{slice_eq-Decides}
-use Rattle.sy_axioms.specs.declared.moment.Fired.{Fired}
+use Rattle.sy_machines.specs.declared.fired.Fired.{Fired}
 use Rattle.sy_axioms.specs.declared.moment.Events.{Events}
-use Rattle.sy_axioms.specs.contracts.moment.FiredPartialEq.TheImpl as fired
+use Rattle.sy_machines.specs.contracts.fired.FiredPartialEq.TheImpl as fired
 use Rattle.sy_axioms.specs.contracts.moment.EventsPartialEq.TheImpl as events
 
 abbrev fired_eq : Fired → Fired → Bool

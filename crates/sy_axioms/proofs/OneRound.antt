@@ -16,8 +16,9 @@ use Rattle.sy_core.specs.Chronicle.{assuming, conditions, internal_events}
 use Rattle.sy_core.proofs.OrderLaw.{rounds_stay}
 use Rattle.sy_axioms.specs.declared.moment.Moment.{Moment as KeptMoment}
 use Rattle.sy_axioms.specs.declared.moment.Events.{Events}
-use Rattle.sy_axioms.specs.declared.moment.Fired.{Fired}
-use Rattle.sy_axioms.specs.Machine.KeptMoments.{has, has_some, set_of, state_in, moment_of, fired_by, fired_from, round_of}
+use Rattle.sy_machines.specs.declared.fired.Fired.{Fired}
+use Rattle.sy_machines.specs.Fired.{has}
+use Rattle.sy_axioms.specs.Machine.KeptMoments.{has_some, set_of, state_in, moment_of, fired_by, fired_from, round_of}
 
 has-fired_by : (test : Kind → Bool) (kind : Kind) → has (fired_by test) kind ≡ test kind
 has-fired_by test Exerted = refl

@@ -3,43 +3,14 @@ ghost use Rattle.std.specs.List.{list_any};
 ghost use Rattle.sy_core.specs.Propositions.{situation_holds};
 ghost use Rattle.sy_core.specs.Matching.{matches};
 ghost use Rattle.sy_core.specs.Chronicle.{exerts};
-ghost use Rattle.sy_axioms.specs.Machine.KeptMoments.{has, set_of, state_in, moment_of};
+ghost use Rattle.sy_machines.specs.Fired.{has};
+ghost use Rattle.sy_axioms.specs.Machine.KeptMoments.{nothing, set_of, state_in, moment_of};
 
 use std::alloc::Global;
 use sy_base::{List, Memory, Point};
 use sy_core::{Ev, Situation, StateOf, Target, What, copy_states, is_same_state, matches};
+use sy_machines::Fired;
 use sy_words::Kind;
-
-/// Which kinds of internal event happen to one target at a point.
-#[derive(Clone, Copy, Debug, PartialEq, Eq)]
-pub(crate) struct Fired {
-    pub exerted: bool,
-    pub triggered: bool,
-    pub activated: bool,
-    pub resumed: bool,
-    pub suspended: bool,
-    pub fulfilled: bool,
-    pub violated: bool,
-    pub expired: bool,
-    pub discharged: bool,
-    pub terminated: bool,
-    pub completed: bool,
-}
-
-/// No kind happens.
-pub(crate) const NOTHING: Fired = Fired {
-    exerted: false,
-    triggered: false,
-    activated: false,
-    resumed: false,
-    suspended: false,
-    fulfilled: false,
-    violated: false,
-    expired: false,
-    discharged: false,
-    terminated: false,
-    completed: false,
-};
 
 /// The internal events of a point. A position that isn't in the list has none.
 #[derive(Debug, Drop, PartialEq, Eq)]
@@ -67,10 +38,10 @@ pub(crate) struct Moment {
 impl Events {
     /// No event happens.
     pub fn none(alloc: Global) -> Events
-        ensures { result ≡ record { contract = NOTHING; positions = [] } }
+        ensures { result ≡ record { contract = nothing; positions = [] } }
     {
         Events {
-            contract: NOTHING,
+            contract: Fired::NONE,
             positions: List::new(alloc),
         }
     }
@@ -80,26 +51,6 @@ impl Events {
         ensures { IsTrue result ↔ (self.now ≡ other.now) }
     {
         self == other
-    }
-}
-
-impl Fired {
-    pub fn has(self, kind: Kind) -> bool
-        ensures { result ≡ has self kind }
-    {
-        match kind {
-            Kind::Exerted => self.exerted,
-            Kind::Triggered => self.triggered,
-            Kind::Activated => self.activated,
-            Kind::Resumed => self.resumed,
-            Kind::Suspended => self.suspended,
-            Kind::Fulfilled => self.fulfilled,
-            Kind::Violated => self.violated,
-            Kind::Expired => self.expired,
-            Kind::Discharged => self.discharged,
-            Kind::Terminated => self.terminated,
-            Kind::Completed => self.completed,
-        }
     }
 }
 
@@ -132,7 +83,7 @@ impl Moment {
             ≡ (moment_of self.now).seen (Ev.Inner kind (Target.Position position)) }
     {
         match self.events.positions.items().get(position as usize) {
-            None => NOTHING,
+            None => Fired::NONE,
             Some(fired) => *fired,
         }
     }

@@ -7,11 +7,12 @@ ghost use Rattle.sy_axioms.specs.Machine.Presents.{moment_now, moments_before, c
 ghost use Rattle.sy_axioms.specs.Machine.Ready.{IsReady};
 
 use crate::condition;
-use crate::moment::{Events, Fired, Moment, NOTHING};
+use crate::moment::{Events, Moment};
 use crate::present::Present;
 use std::alloc::Global;
 use sy_base::{List, Memory};
 use sy_core::{Deed, Position, contract_kinds, kinds_of};
+use sy_machines::Fired;
 
 /// How many internal events the deed has.
 fn count_events(deed: &Deed) -> u64
@@ -34,7 +35,7 @@ fn contract_round(present: &Present) -> Fired
         suspended: condition::contract_suspended(present),
         terminated: condition::contract_terminated(present),
         completed: condition::contract_completed(present),
-        ..NOTHING
+        ..Fired::NONE
     }
 }
 

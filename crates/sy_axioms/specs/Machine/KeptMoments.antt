@@ -12,24 +12,11 @@ use Rattle.sy_core.specs.Moments.{Moment}
 use Rattle.sy_core.specs.States.{contract_after}
 use Rattle.sy_core.specs.Conditions.{next_state, contract_fires, position_fires}
 use Rattle.sy_core.specs.Chronicle.{assuming}
+use Rattle.sy_machines.specs.declared.fired.Fired.{Fired}
+use Rattle.sy_machines.specs.Fired.{has}
 use Rattle.sy_axioms.specs.declared.moment.Moment.{Moment as KeptMoment}
 use Rattle.sy_axioms.specs.declared.moment.Events.{Events}
-use Rattle.sy_axioms.specs.declared.moment.Fired.{Fired}
 use Rattle.sy_axioms.specs.declared.moment.States.{States}
-
--- the kind is among those that happen
-abbrev pub has : Fired → Kind → Bool
-has fired Exerted = fired.exerted
-has fired Triggered = fired.triggered
-has fired Activated = fired.activated
-has fired Resumed = fired.resumed
-has fired Suspended = fired.suspended
-has fired Fulfilled = fired.fulfilled
-has fired Violated = fired.violated
-has fired Expired = fired.expired
-has fired Discharged = fired.discharged
-has fired Terminated = fired.terminated
-has fired Completed = fired.completed
 
 -- the kind is among those of a position, if it is there
 abbrev pub has_some : Option Fired → Kind → Bool
@@ -69,6 +56,10 @@ fired_by test = record {
   terminated = test Terminated;
   completed = test Completed;
 }
+
+-- no kind
+abbrev pub nothing : Fired
+nothing = fired_by (λ kind. false)
 
 -- what the conditions give for each position, from number i on
 abbrev pub fired_from : Deed → Moment → List Moment → ℕ → List Position → List Fired

@@ -1,8 +1,0 @@
-use Rattle.std.proofs.Common.{◌≡◌, drop}
-use Rattle.sy_core.specs.States.{last_state}
-use Rattle.sy_axioms.specs.Machine.KeptMoments.{has}
-use Rattle.sy_axioms.proofs.states.last_state.Given as goal
-
-abbrev pub invariant-loop-kind : goal.invariant-loop-kind
-invariant-loop-kind l =
-    last_state l.form (drop l.kind-index l.kinds) (has l.fired) l.last ≡ last_state l.form l.kinds (has l.fired) l.fn.state
