@@ -1,0 +1,50 @@
+ghost use Rattle.std.specs.Prelude.{◌≡◌, ◌<◌, ◌≤◌, IfOk, OnOk, IfErr};
+ghost use Rattle.std.specs.List.{All};
+ghost use Rattle.sy_core.specs.Orders.{order, IsAcyclic};
+ghost use Rattle.sy_strata.specs.Edges.{needs_by, IsCycleFault};
+
+use crate::counters::Counters;
+use crate::cycle::named_cycle;
+use crate::{Edge, OrderFault};
+use std::alloc::Global;
+use sy_base::{List, Memory};
+
+/// The nodes below `n`, at most 2,001, in an order in which each stands after all that it needs, and
+/// the least that may stand at a place stands there. Both ends of each edge are below `n`.
+///
+/// # Errors
+///
+/// `Cycle` where there is no such order, with the nodes of one cycle.
+pub fn order(alloc: Global, n: u32, edges: &[Edge]) -> Result<List<u32>, OrderFault>
+    requires few { n ≤ 2001 }
+    requires ends { All (λ edge. (edge.node < n) × (edge.needs < n)) edges.now }
+    ensures listed { IfOk result (λ list. list ≡ order (needs_by edges.now) n) }
+    ensures acyclic { OnOk result (IsAcyclic (needs_by edges.now) n) }
+    ensures cycle { IfErr result (IsCycleFault (needs_by edges.now) n) }
+{
+    let list = listed(alloc, n, edges)?;
+    if list.items().len() == n as usize {
+        Ok(list)
+    } else {
+        let cycle = named_cycle(alloc, n, edges, list.items())?;
+        Err(OrderFault::Cycle(cycle))
+    }
+}
+
+/// The nodes in order, up to where none is ready.
+fn listed(alloc: Global, n: u32, edges: &[Edge]) -> Result<List<u32>, Memory>
+    requires { All (λ edge. (edge.node < n) × (edge.needs < n)) edges.now }
+    ensures { IfOk result (λ list. list ≡ order (needs_by edges.now) n) }
+{
+    let mut counters = Counters::of(alloc, n, edges)?;
+    let mut ready = counters.ready(alloc)?;
+    let mut list = List::new(alloc);
+    'places: for _ in 0..n {
+        let Some(node) = ready.pop_first() else {
+            return Ok(list);
+        };
+        counters.meet(node, &mut ready)?;
+        list.push(node)?;
+    }
+    Ok(list)
+}
