@@ -1,17 +1,16 @@
 -- The nodes that wait while nodes are listed.
-use Rattle.std.proofs.Common.{◌≡◌, ℕ, ◌<◌, ◌≤◌, ◌+◌, ◌==◌, Bool, true, false, not, ◌||◌, ◌&&◌, List, [], ◌∷◌, ◌++◌, length, get_or, cond, inl, inr, refl, sym, ◌∙◌, ap, subst, arith, ◌⊎◌}
+use Rattle.std.proofs.Common.{◌≡◌, ℕ, ◌<◌, ◌≤◌, ◌+◌, ◌==◌, Bool, true, false, not, ◌||◌, ◌&&◌, List, [], ◌∷◌, ◌++◌, length, get_or, inl, inr, sym, ◌∙◌, ap, subst, arith, ◌⊎◌}
 use Rattle.std.specs.Prelude.{nat_lt}
-use Rattle.std.specs.List.{find, list_any, list_all}
+use Rattle.std.specs.List.{find, list_all}
 use Rattle.std.specs.declared.option.Option.TheVariants.{Some, None}
-use Rattle.std.specs.Ordering.{nat_cmp, is_gt, is_eq}
-use Rattle.std.specs.BTreeMap.{is_at}
+use Rattle.std.specs.Ordering.{nat_cmp}
 use Rattle.std.specs.BTreeSet.{BTreeSet, contains}
-use Rattle.std.proofs.lemmas.Bool.{both_ways, and_parts, or_cases, lt-ltb, ltb-true, not-true, eqb-true, false_from_ne_true}
+use Rattle.std.proofs.lemmas.Bool.{and_parts, or_cases, lt-ltb, ltb-true, not-true, eqb-true}
 use Rattle.std.proofs.lemmas.Bool.Decides.{Decides-eqb, nat_tests}
 use Rattle.sy_core.specs.Orders.{numbers_below, is_listed, is_ready}
 use Rattle.sy_strata.specs.declared.edge.Edge.{Edge}
 use Rattle.sy_strata.specs.Edges.{needs_by}
-use Rattle.sy_strata.specs.Machine.Counting.{times, AreCounted, AreMet}
+use Rattle.sy_strata.specs.Machine.Counting.{times, AreCounted, IsLeastTaken, AreMet}
 use Rattle.sy_strata.proofs.Finding.{found_is}
 use Rattle.sy_strata.proofs.Tallies.{lacking, listed_and_one, lacking_and_one, all_listed, all_lacking}
 use Rattle.sy_strata.proofs.Lowering.{is_within}
@@ -24,14 +23,6 @@ pub record AreWaiting (needs : ℕ → List ℕ) (count : ℕ) (listed : List �
   pub unmet_are : (k : ℕ) → get_or unmet k 0 ≡ lacking listed (needs k)
   pub done : (k : ℕ) → is_listed listed k ≡ true → get_or unmet k 0 ≡ 0
   pub ready_are : (k : ℕ) → contains nat_cmp ready k ≡ (nat_lt k count && is_ready needs listed k)
-
--- a set without a first node has none
-pub none_there : (ready : BTreeSet ℕ) → (0 < length ready.keys → ⊥) → (k : ℕ) → contains nat_cmp ready k ≡ false
-none_there ready none k = at ready.keys none
-  where
-    at : (keys : List ℕ) → (0 < length keys → ⊥) → list_any (is_at (nat_cmp k)) keys ≡ false
-    at [] none = refl
-    at (x ∷ xs) none = absurd (none (omega arith))
 
 -- no node is listed at first
 pub all_wait : (count : ℕ) (edges : List Edge) (needers : List (List ℕ)) (unmet : List ℕ) (ready : BTreeSet ℕ) → AreCounted count edges needers unmet → ((k : ℕ) → contains nat_cmp ready k ≡ (nat_lt k (length unmet) && (get_or unmet k 0 == 0))) → AreWaiting (needs_by edges) count [] needers unmet ready
@@ -48,7 +39,7 @@ all_wait count edges needers unmet ready counted without = record {
     unmet_is : (k : ℕ) → get_or unmet k 0 ≡ lacking [] (needs_by edges k)
     unmet_is k = counted.unmet_are k ∙ sym (all_lacking (needs_by edges k))
 
-ready_step : (below listed same : Bool) (old told left : ℕ) → left + told ≡ old → (same ≡ true → old ≡ 0) → (0 < old → below ≡ true) → (listed ≡ true → old ≡ 0) → (cond same false (below && (not listed && (old == 0))) || (nat_lt 0 told && (left == 0))) ≡ (below && (not (listed || same) && (left == 0)))
+ready_step : (below listed same : Bool) (old told left : ℕ) → left + told ≡ old → (same ≡ true → old ≡ 0) → (0 < old → below ≡ true) → (listed ≡ true → old ≡ 0) → ((not same && (below && (not listed && (old == 0)))) || (nat_lt 0 told && (left == 0))) ≡ (below && (not (listed || same) && (left == 0)))
 ready_step below listed same old told left e this within done = grind (arith, nat_tests)
 
 module _ (needs : ℕ → List ℕ) (count : ℕ) (listed : List ℕ) (needers : List (List ℕ)) (unmet : List ℕ) (ready : BTreeSet ℕ) (waits : AreWaiting needs count listed needers unmet ready) where
@@ -56,26 +47,22 @@ module _ (needs : ℕ → List ℕ) (count : ℕ) (listed : List ℕ) (needers :
   ready_at k =
       waits.ready_are k ∙ ap (λ b. nat_lt k count && (not (is_listed listed k) && b)) (all_listed listed (needs k) ∙ ap (λ n. n == 0) (sym (waits.unmet_are k)))
 
-  -- the least of the set is the one that the order lists next
-  pub next_is : (node : ℕ) → contains nat_cmp ready node ≡ true → ((q : ℕ) → contains nat_cmp ready q ≡ true → is_gt (nat_cmp node q) ≡ false) → find (is_ready needs listed) (numbers_below count) ≡ Some node
-  next_is node there least =
-      let parts = and_parts (nat_lt node count) (is_ready needs listed node) (sym (waits.ready_are node) ∙ there) in
-      let within : node < count = ltb-true node count parts.0 in
-      found_is (is_ready needs listed) count (Some node) (within, parts.1, λ q lt. before q lt (omega (arith, lt, within)))
-    where
-      greater : (q : ℕ) → q < node → is_gt (nat_cmp node q) ≡ true
-      greater q lt = grind (arith, nat_tests)
-
-      before : (q : ℕ) → q < node → q < count → is_ready needs listed q ≡ false
-      before q lt within =
-          false_from_ne_true (is_ready needs listed q) (λ is. both_ways (is_gt (nat_cmp node q)) (least q (waits.ready_are q ∙ (ap (λ b. b && is_ready needs listed q) (lt-ltb q count within) ∙ is))) (greater q lt))
-
   -- where the set is empty the order lists no more
   pub none_next : ((q : ℕ) → contains nat_cmp ready q ≡ false) → find (is_ready needs listed) (numbers_below count) ≡ None
   none_next none =
       found_is (is_ready needs listed) count None (λ q within. sym (ap (λ b. b && is_ready needs listed q) (lt-ltb q count within)) ∙ (sym (waits.ready_are q) ∙ none q))
 
-  module _ (node : ℕ) (there : contains nat_cmp ready node ≡ true) where
+  module _ (node : ℕ) (popped : BTreeSet ℕ) (taken : IsLeastTaken node ready popped) where
+    there : contains nat_cmp ready node ≡ true
+    there = taken.member
+
+    -- the least of the set is the one that the order lists next
+    pub next_is : find (is_ready needs listed) (numbers_below count) ≡ Some node
+    next_is =
+        let parts = and_parts (nat_lt node count) (is_ready needs listed node) (sym (waits.ready_are node) ∙ there) in
+        let within : node < count = ltb-true node count parts.0 in
+        found_is (is_ready needs listed) count (Some node) (within, parts.1, λ q lt. sym (ap (λ b. b && is_ready needs listed q) (lt-ltb q count (omega (arith, lt, within)))) ∙ (sym (waits.ready_are q) ∙ taken.least q lt))
+
     is_out : is_listed listed node ≡ false
     is_out =
         let parts = and_parts (nat_lt node count) (is_ready needs listed node) (sym (waits.ready_are node) ∙ there) in
@@ -101,8 +88,8 @@ module _ (needs : ℕ → List ℕ) (count : ℕ) (listed : List ℕ) (needers :
     has_room k = let a = told_at k in omega (arith, a)
 
     -- once the node is listed and the others were told
-    pub waits_on : (popped after : BTreeSet ℕ) (new : List ℕ) → ((k : ℕ) → contains nat_cmp popped k ≡ cond (is_eq (nat_cmp node k)) false (contains nat_cmp ready k)) → AreMet (get_or needers node []) unmet new popped after → AreWaiting needs count (listed ++ node ∷ []) needers new after
-    waits_on popped after new without met = record {
+    pub waits_on : (after : BTreeSet ℕ) (new : List ℕ) → AreMet (get_or needers node []) unmet new popped after → AreWaiting needs count (listed ++ node ∷ []) needers new after
+    waits_on after new met = record {
       needers_length = waits.needers_length;
       unmet_length = met.unmet_length ∙ waits.unmet_length;
       needers_are = waits.needers_are;
@@ -119,13 +106,10 @@ module _ (needs : ℕ → List ℕ) (count : ℕ) (listed : List ℕ) (needers :
         or_done k (inl h) = let a = met.unmet k in let b = waits.done k h in omega (arith, a, b)
         or_done k (inr h) = let a = met.unmet k in let b = subst (λ n. get_or unmet n 0 ≡ 0) ((Decides-eqb node k).0 h) is_met in omega (arith, a, b)
 
-        same_test : (k : ℕ) → is_eq (nat_cmp node k) ≡ (node == k)
-        same_test k = grind (arith, nat_tests)
+        popped_at : (k : ℕ) → contains nat_cmp popped k ≡ (not (node == k) && (nat_lt k count && (not (is_listed listed k) && (get_or unmet k 0 == 0))))
+        popped_at k = taken.others k ∙ ap (λ b. not (node == k) && b) (ready_at k)
 
-        popped_at : (k : ℕ) → contains nat_cmp popped k ≡ cond (node == k) false (nat_lt k count && (not (is_listed listed k) && (get_or unmet k 0 == 0)))
-        popped_at k = without k ∙ (ap (λ b. cond b false (contains nat_cmp ready k)) (same_test k) ∙ ap (λ b. cond (node == k) false b) (ready_at k))
-
-        step_at : (k : ℕ) → (cond (node == k) false (nat_lt k count && (not (is_listed listed k) && (get_or unmet k 0 == 0))) || (nat_lt 0 (times k (get_or needers node [])) && (get_or new k 0 == 0))) ≡ (nat_lt k count && (not (is_listed listed k || (node == k)) && (get_or new k 0 == 0)))
+        step_at : (k : ℕ) → ((not (node == k) && (nat_lt k count && (not (is_listed listed k) && (get_or unmet k 0 == 0)))) || (nat_lt 0 (times k (get_or needers node [])) && (get_or new k 0 == 0))) ≡ (nat_lt k count && (not (is_listed listed k || (node == k)) && (get_or new k 0 == 0)))
         step_at k =
             ready_step (nat_lt k count) (is_listed listed k) (node == k) (get_or unmet k 0) (times k (get_or needers node [])) (get_or new k 0) (met.unmet k) (λ same. subst (λ n. get_or unmet n 0 ≡ 0) ((Decides-eqb node k).0 same) is_met) (λ some. lt-ltb k count (let a = is_within unmet k some in omega (arith, a, waits.unmet_length))) (waits.done k)
 

@@ -1,12 +1,16 @@
-ghost use Rattle.std.specs.Prelude.{◌≡◌, ◌<◌, ◌≤◌, IfOk, OnOk, IfErr};
+ghost use Rattle.std.specs.Prelude.{◌≡◌, ◌<◌, ◌≤◌, ℕ, false, IfOk, OnOk, IfErr, IfNone, IfSome};
 ghost use Rattle.std.specs.List.{All};
+ghost use Rattle.std.specs.Ordering.{nat_cmp};
+ghost use Rattle.std.specs.BTreeSet.{contains};
 ghost use Rattle.sy_core.specs.Orders.{order, IsAcyclic};
 ghost use Rattle.sy_strata.specs.Edges.{needs_by, IsCycleFault};
+ghost use Rattle.sy_strata.specs.Machine.Counting.{IsLeastTaken};
 
 use crate::counters::Counters;
 use crate::cycle::named_cycle;
 use crate::{Edge, OrderFault};
 use std::alloc::Global;
+use std::collections::BTreeSet;
 use sy_base::{List, Memory};
 
 /// The nodes below `n`, at most 2,001, in an order in which each stands after all that it needs, and
@@ -40,11 +44,19 @@ fn listed(alloc: Global, n: u32, edges: &[Edge]) -> Result<List<u32>, Memory>
     let mut ready = counters.ready(alloc)?;
     let mut list = List::new(alloc);
     'places: for _ in 0..n {
-        let Some(node) = ready.pop_first() else {
+        let Some(node) = take_least(&mut ready) else {
             return Ok(list);
         };
         counters.meet(node, &mut ready)?;
         list.push(node)?;
     }
     Ok(list)
+}
+
+/// Takes the least node out of the set, where it has one.
+fn take_least(ready: &mut BTreeSet<u32>) -> Option<u32>
+    ensures none { IfNone result ((k : ℕ) → contains nat_cmp ready.old k ≡ false) }
+    ensures least { IfSome result (λ node. IsLeastTaken node ready.old ready.new) }
+{
+    ready.pop_first()
 }

@@ -1,5 +1,5 @@
 -- What the counters of unmet needs say, and how they are lowered.
-use Rattle.std.specs.Prelude.{◌≡◌, ◌==◌, ◌+◌, ◌-◌, ◌&&◌, ◌||◌, ℕ, List, [], length, slice_index, slice_index_or, slice_set, nat_lt}
+use Rattle.std.specs.Prelude.{◌≡◌, not, true, false, ◌==◌, ◌<◌, ◌+◌, ◌-◌, ◌&&◌, ◌||◌, ℕ, List, [], length, slice_index, slice_index_or, slice_set, nat_lt}
 use Rattle.std.specs.List.{count_by}
 use Rattle.std.specs.Ordering.{nat_cmp}
 use Rattle.std.specs.BTreeSet.{BTreeSet, contains}
@@ -16,6 +16,12 @@ pub record AreCounted (count : ℕ) (edges : List Edge) (needers : List (List �
   pub unmet_length : length unmet ≡ count
   pub needers_are : (k m : ℕ) → times k (slice_index_or needers m []) ≡ times m (needs_by edges k)
   pub unmet_are : (k : ℕ) → slice_index unmet k ≡ length (needs_by edges k)
+
+-- the node was the least of the set, which has only the others now
+pub record IsLeastTaken (node : ℕ) (old new : BTreeSet ℕ) : Type 0 where
+  pub member : contains nat_cmp old node ≡ true
+  pub least : (k : ℕ) → k < node → contains nat_cmp old k ≡ false
+  pub others : (k : ℕ) → contains nat_cmp new k ≡ (not (node == k) && contains nat_cmp old k)
 
 -- one node's counter is one less, and the node is ready where that is 0
 pub record IsLowered (node : ℕ) (old new : List ℕ) (before after : BTreeSet ℕ) : Type 0 where
