@@ -1,4 +1,5 @@
 pub mod Built
+pub mod Circles
 pub mod Finding
 pub mod Lowering
 pub mod Places

@@ -23,7 +23,7 @@ listed_and_one listed x k = list_any-append (λ y. y == k) listed (x ∷ []) ∙
 pub times_and_one : (number : ℕ) (list : List ℕ) (x : ℕ) → times number (list ++ x ∷ []) ≡ times number list + cond (x == number) 1 0
 times_and_one number list x = sum_by_push (λ other. cond (other == number) 1 0) list x
 
-same_swapped : (x y : ℕ) → (x == y) ≡ (y == x)
+pub same_swapped : (x y : ℕ) → (x == y) ≡ (y == x)
 same_swapped x y = grind (arith, nat_tests)
 
 one_lacks : (b s : Bool) → (s ≡ true → b ≡ false) → cond (not (b || s)) 1 0 + cond s 1 0 ≡ cond (not b) 1 0

@@ -3,7 +3,7 @@ ghost use Rattle.std.specs.List.{All};
 ghost use Rattle.std.specs.Ordering.{nat_cmp};
 ghost use Rattle.std.specs.BTreeSet.{contains};
 ghost use Rattle.sy_core.specs.Orders.{order, IsAcyclic};
-ghost use Rattle.sy_strata.specs.Edges.{needs_by, IsCycleFault};
+ghost use Rattle.sy_strata.specs.Edges.{needs_by, IsCycleFault, IsCircleFault};
 ghost use Rattle.sy_strata.specs.Machine.Counting.{IsLeastTaken};
 
 use crate::counters::Counters;
@@ -25,6 +25,7 @@ pub fn order(alloc: Global, n: u32, edges: &[Edge]) -> Result<List<u32>, OrderFa
     ensures listed { IfOk result (λ list. list ≡ order (needs_by edges.now) n) }
     ensures acyclic { OnOk result (IsAcyclic (needs_by edges.now) n) }
     ensures cycle { IfErr result (IsCycleFault (needs_by edges.now) n) }
+    ensures circle { IfErr result (IsCircleFault (needs_by edges.now)) }
 {
     let list = listed(alloc, n, edges)?;
     if list.items().len() == n as usize {
