@@ -1,4 +1,4 @@
-ghost use Rattle.std.specs.Prelude.{◌≡◌, ℕ, [], ◌+◌, ◌<◌, ◌≤◌, ◌^◌, ◌==◌, ◌&&◌, IfOk, OnOk, length, replicate, slice_index, slice_index_or, nat_lt};
+ghost use Rattle.std.specs.Prelude.{◌≡◌, ℕ, [], ◌<◌, ◌≤◌, ◌^◌, ◌==◌, ◌&&◌, IfOk, OnOk, length, replicate, slice_index, slice_index_or, nat_lt};
 ghost use Rattle.std.specs.List.{All};
 ghost use Rattle.std.specs.Ordering.{nat_cmp};
 ghost use Rattle.std.specs.BTreeSet.{contains};
@@ -22,7 +22,8 @@ impl Counters {
     /// The counters where no node is listed.
     pub(crate) fn of(alloc: Global, n: u32, edges: &[Edge]) -> Result<Counters, Memory>
         requires { All (λ edge. (edge.node < n) × (edge.needs < n)) edges.now }
-        ensures { IfOk result (λ counters. AreCounted n edges.now counters.needers.items counters.unmet.items) }
+        ensures { IfOk result
+            (λ counters. AreCounted n edges.now counters.needers.items counters.unmet.items) }
     {
         let mut needers = empty_lists(alloc, n)?;
         let mut unmet = vec![in alloc; 0; n as usize]?;
@@ -37,7 +38,8 @@ impl Counters {
     pub(crate) fn ready(&self, alloc: Global) -> Result<BTreeSet<u32>, Memory>
         requires { length self.now.unmet.items < 2 ^ 32 }
         ensures { IfOk result
-            (λ ready. (k : ℕ) → contains nat_cmp ready k ≡ (nat_lt k (length self.now.unmet.items) && (slice_index self.now.unmet.items k == 0))) }
+            (λ ready. (k : ℕ) → contains nat_cmp ready k
+            ≡ (nat_lt k (length self.now.unmet.items) && (slice_index self.now.unmet.items k == 0))) }
     {
         let mut ready = BTreeSet::new(alloc);
         for (node, count) in self.unmet.iter().enumerate() {
@@ -51,10 +53,12 @@ impl Counters {
     /// Lowers the counters of the nodes that need this one. Those that come to 0 are ready.
     pub(crate) fn meet(&mut self, node: u32, ready: &mut BTreeSet<u32>) -> Result<(), Memory>
         requires node { node < length self.old.needers.items }
-        requires room { (k : ℕ) → times k (slice_index_or self.old.needers.items node []) ≤ slice_index self.old.unmet.items k }
+        requires room { (k : ℕ)
+            → times k (slice_index_or self.old.needers.items node []) ≤ slice_index self.old.unmet.items k }
         ensures needers { self.new.needers.items ≡ self.old.needers.items }
         ensures met { OnOk result
-            (AreMet (slice_index_or self.old.needers.items node []) self.old.unmet.items self.new.unmet.items ready.old ready.new) }
+            (AreMet (slice_index_or self.old.needers.items node [])
+            self.old.unmet.items self.new.unmet.items ready.old ready.new) }
     {
         meet_each(self.needers[node as usize].items(), &mut self.unmet, ready)
     }

@@ -1,6 +1,6 @@
-ghost use Rattle.std.specs.Prelude.{◌≡◌, ℕ, ◌+◌, ◌<◌, ◌≤◌, suc, false, [], None, IfOk, IfSome, find, length, min, slice_index_or, unwrap_or};
+ghost use Rattle.std.specs.Prelude.{◌≡◌, ◌<◌, suc, false, [], None, IfOk, IfSome, find, length, min, slice_index_or, unwrap_or};
 ghost use Rattle.std.specs.List.{All};
-ghost use Rattle.sy_core.specs.Orders.{numbers_below, order, is_listed, cycle_on, named_cycle};
+ghost use Rattle.sy_core.specs.Orders.{numbers_below, order, cycle_on, named_cycle};
 ghost use Rattle.sy_strata.specs.Edges.{needs_by};
 ghost use Rattle.sy_strata.specs.Machine.Ways.{MarksRest, AreLeast};
 
@@ -77,7 +77,7 @@ fn lesser(least: Option<u32>, need: u32) -> u32
     least.unwrap_or(need).min(need)
 }
 
-/// The cycle to which the way leads that begins at the first node and goes each time to the next one.
+/// The cycle to which the way leads that begins at the first node and goes each time to the next.
 fn walk(
     alloc: Global,
     n: u32,
@@ -87,7 +87,8 @@ fn walk(
     requires first { IfSome first (λ node. node < n) }
     requires next { All (λ node. IfSome node (λ node. node < n)) next.now }
     requires length { length next.now ≡ n }
-    ensures { IfOk result (λ cycle. cycle ≡ cycle_on (λ node. slice_index_or next.now node None) (suc n) [] first) }
+    ensures { IfOk result
+        (λ cycle. cycle ≡ cycle_on (λ node. slice_index_or next.now node None) (suc n) [] first) }
 {
     let mut comings = vec![in alloc; None; n as usize]?;
     let mut way = List::new(alloc);

@@ -1,5 +1,5 @@
-//! The order of numbered nodes in which each stands after those that it needs. Where they have none,
-//! a cycle in which they need each other.
+//! The order of numbered nodes in which each stands after those that it needs. Where they have
+//! none, a cycle in which they need each other.
 #![tactic(auto)]
 
 mod counters;

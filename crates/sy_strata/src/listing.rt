@@ -13,12 +13,13 @@ use std::alloc::Global;
 use std::collections::BTreeSet;
 use sy_base::{List, Memory};
 
-/// The nodes below `n`, at most 2,001, in an order in which each stands after all that it needs, and
-/// the least that may stand at a place stands there. Both ends of each edge are below `n`.
+/// The nodes below `n`, which is at most 2,001, in the order in which each stands after all that it
+/// needs, and at each place the least that may stand there. Both ends of each edge are below `n`.
 ///
 /// # Errors
 ///
-/// `Cycle` where there is no such order, with the nodes of one cycle.
+/// `Cycle` where there is no such order, with the cycle to which the least node leads that can't be
+/// listed, by its least need that can't, and so on.
 pub fn order(alloc: Global, n: u32, edges: &[Edge]) -> Result<List<u32>, OrderFault>
     requires few { n ≤ 2001 }
     requires ends { All (λ edge. (edge.node < n) × (edge.needs < n)) edges.now }
