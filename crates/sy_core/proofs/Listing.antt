@@ -50,7 +50,7 @@ module _ (needs : ℕ → List ℕ) (count : ℕ) where
       (h.0, h.1, h.2, ready_and_one (done ++ x ∷ []) xs k h.3 lt (subst (λ l. is_listed l k ≡ false) same fresh) (subst (λ l. list_all (is_listed l) (needs k) ≡ true) same r))
 
 -- what is found passes
-found_passes : (p : ℕ → Bool) (xs : List ℕ) (k : ℕ) → find p xs ≡ Some k → p k ≡ true
+pub found_passes : {X : Type 0} (p : X → Bool) (xs : List X) (k : X) → find p xs ≡ Some k → p k ≡ true
 found_passes p [] k h = cc
 found_passes p (x ∷ xs) k h = at (p x) refl (found_passes p xs k) h
   where

@@ -12,7 +12,7 @@ use Rattle.sy_core.specs.Orders.{is_listed, order, IsAcyclic}
 use Rattle.sy_core.specs.Prerequisites.{Node, Exert, Trig, Act, End, Contract, same_node, nodes_of, own_exert, node_list, nodes, number_of, needs, numbered_needs, numbered_needs_of, nodes_at, nodes_in_order}
 use Rattle.sy_core.proofs.Members.{Among}
 use Rattle.sy_core.proofs.OrderLaw.{among_append}
-use Rattle.sy_core.proofs.Listing.{and_left, and_right, ReadyFrom, AllBelow, below_and_one, listed_is_below, listed_last, listed_more, total, sum_of, all_listed, sum_of_order, order_is_ready, order_is_below}
+use Rattle.sy_core.proofs.Listing.{found_passes, and_left, and_right, ReadyFrom, AllBelow, below_and_one, listed_is_below, listed_last, listed_more, total, sum_of, all_listed, sum_of_order, order_is_ready, order_is_below}
 
 -- members of two lists together
 pub among_left : {X : Type 0} (xs ys : List X) (d : X) → Among xs d → Among (xs ++ ys) d
@@ -151,16 +151,9 @@ same_nodes _ _ h = cc
 found_node : (n : Node) (ns : List Node) → position_or_len (same_node n) ns < length ns → slice_get ns (position_or_len (same_node n) ns) ≡ Some n
 found_node n ns lt = sym (find_at (same_node n) ns) ∙ at (find (same_node n) ns) refl
   where
-    passes : (p : Node → Bool) (ns : List Node) (m : Node) → find p ns ≡ Some m → p m ≡ true
-    passes p [] m h = cc
-    passes p (x ∷ xs) m h = here (p x) refl (passes p xs m) h
-      where
-        here : (b : Bool) → p x ≡ b → (find p xs ≡ Some m → p m ≡ true) → (if b then Some x else find p xs) ≡ Some m → p m ≡ true
-        here true e later h = let same : x ≡ m = cc in subst (λ y. p y ≡ true) same e
-        here false e later h = later h
     at : (o : Option Node) → find (same_node n) ns ≡ o → find (same_node n) ns ≡ Some n
     at None e = let some = sym e ∙ (find_at (same_node n) ns ∙ slice_get-get_or ns (position_or_len (same_node n) ns) Contract lt) in cc
-    at (Some m) e = e ∙ ap Some (sym (same_nodes n m (passes (same_node n) ns m e)))
+    at (Some m) e = e ∙ ap Some (sym (same_nodes n m (found_passes (same_node n) ns m e)))
 
 -- nodes that follow one another: each is none of those from it on that it needs, and stands once
 abbrev pub InOrder : Deed → List Node → Type 0
@@ -227,6 +220,13 @@ module _ (deed : Deed) where
         | inr later ↦ all_nodes xs n later
       ]
 
+  -- an obligation's nodes have no exertion
+  no_exertion : (j : ℕ) → Among (Trig j ∷ Act j ∷ End j ∷ []) (Exert (j + 0)) → ⊥
+  no_exertion j (inl e) = cc
+  no_exertion j (inr (inl e)) = cc
+  no_exertion j (inr (inr (inl e))) = cc
+  no_exertion j (inr (inr (inr nothing))) = nothing
+
   -- the exertion of a position is a node of a power alone
   exert_of_power : (j : ℕ) (ps : List Position) (i : ℕ) (p : Position) → slice_get ps i ≡ Some p → Among (nodes_from j ps) (Exert (j + i)) → Among (own_exert p.form (j + i)) (Exert (j + i))
   exert_of_power j [] i p is a = cc
@@ -240,20 +240,8 @@ module _ (deed : Deed) where
     where
       here : (form : Form) → Among (nodes_of form j) (Exert (j + 0)) → Among (own_exert form (j + 0)) (Exert (j + 0))
       here Power m = inl refl
-      here Obligation m = absurd (none m)
-        where
-          none : Among (Trig j ∷ Act j ∷ End j ∷ []) (Exert (j + 0)) → ⊥
-          none (inl e) = cc
-          none (inr (inl e)) = cc
-          none (inr (inr (inl e))) = cc
-          none (inr (inr (inr nothing))) = nothing
-      here Surviving m = absurd (none m)
-        where
-          none : Among (Trig j ∷ Act j ∷ End j ∷ []) (Exert (j + 0)) → ⊥
-          none (inl e) = cc
-          none (inr (inl e)) = cc
-          none (inr (inr (inl e))) = cc
-          none (inr (inr (inr nothing))) = nothing
+      here Obligation m = absurd (no_exertion j m)
+      here Surviving m = absurd (no_exertion j m)
   exert_of_power j (x ∷ ps) (suc i) p is a =
       let e : (j + 1) + i ≡ j + suc i = omega arith in
       elim (among_append (nodes_of x.form j) (nodes_from (j + 1) ps) (Exert (j + suc i)) (subst (λ l. Among l (Exert (j + suc i))) (append_assoc (nodes_of x.form j) (flat_map (λ n. nodes_of n.1.form n.0) (enumerate_from (j + 1) ps)) (Contract ∷ [])) a)) [
