@@ -89,32 +89,79 @@ contract_needs = λ j.
     ++ ((obligation_nodes 2 ++ flat_map (λ r. obligation_nodes r.0) (sale_remedies (T.Position 2) j)) ++ []))))
 
 pub sale_is_needs : AreNeeds meat_sale sale_nodes sale_needs
-sale_is_needs =
-    ((λ j. trig_by meat_sale 0 (const_names true j)),
-    ((λ j. act_by meat_sale 0 Obligation (const_names true j)),
-    ((λ j. end_by meat_sale 0 Obligation (const_names true j) (before_names delivered (on (pos 19793)) j)),
-    ((λ j. trig_by meat_sale 1 (happens_names delivered j)),
-    ((λ j. act_by meat_sale 1 Obligation (const_names true j)),
-    ((λ j. end_by meat_sale 1 Obligation (const_names true j) (before_names (at_least 1 (pos 100)) (days_after delivered 10) j)),
-    ((λ j. trig_by meat_sale 2 (happens_names broken j)),
-    ((λ j. act_by meat_sale 2 Obligation (const_names true j)),
-    ((λ j. end_by meat_sale 2 Obligation (const_names true j) (before_names (at_least 2 (pos 110)) (days_after broken 30) j)),
-    ((λ j. trig_by meat_sale 3 (const_names true j)),
-    ((λ j. act_by meat_sale 3 Surviving (const_names true j)),
-    ((λ j. end_by meat_sale 3 Surviving (const_names true j) (secret_names j)),
-    (refl,
-    ((λ j. trig_by meat_sale 4 (happens_names delivered j)),
-    ((λ j. act_by meat_sale 4 Power (const_names true j)),
-    ((λ j. end_by meat_sale 4 Power (const_names true j) []),
-    (refl,
-    ((λ j. trig_by meat_sale 5 (happens_names suspended j)),
-    ((λ j. act_by meat_sale 5 Power (const_names true j)),
-    ((λ j. end_by meat_sale 5 Power (const_names true j) []),
-    (refl,
-    ((λ j. trig_by meat_sale 6 (const_names true j)),
-    ((λ j. act_by meat_sale 6 Power (const_names true j)),
-    ((λ j. end_by meat_sale 6 Power (const_names true j) []),
-    (contract_needs, tt)))))))))))))))))))))))))
+sale_is_needs = (
+  (λ j. trig_by meat_sale 0 (const_names true j)),
+  (
+    (λ j. act_by meat_sale 0 Obligation (const_names true j)),
+    (
+      (λ j. end_by meat_sale 0 Obligation (const_names true j) (before_names delivered (on (pos 19793)) j)),
+      (
+        (λ j. trig_by meat_sale 1 (happens_names delivered j)),
+        (
+          (λ j. act_by meat_sale 1 Obligation (const_names true j)),
+          (
+            (λ j. end_by meat_sale 1 Obligation (const_names true j) (before_names (at_least 1 (pos 100)) (days_after delivered 10) j)),
+            (
+              (λ j. trig_by meat_sale 2 (happens_names broken j)),
+              (
+                (λ j. act_by meat_sale 2 Obligation (const_names true j)),
+                (
+                  (λ j. end_by meat_sale 2 Obligation (const_names true j) (before_names (at_least 2 (pos 110)) (days_after broken 30) j)),
+                  (
+                    (λ j. trig_by meat_sale 3 (const_names true j)),
+                    (
+                      (λ j. act_by meat_sale 3 Surviving (const_names true j)),
+                      (
+                        (λ j. end_by meat_sale 3 Surviving (const_names true j) (secret_names j)),
+                        (
+                          refl,
+                          (
+                            (λ j. trig_by meat_sale 4 (happens_names delivered j)),
+                            (
+                              (λ j. act_by meat_sale 4 Power (const_names true j)),
+                              (
+                                (λ j. end_by meat_sale 4 Power (const_names true j) []),
+                                (
+                                  refl,
+                                  (
+                                    (λ j. trig_by meat_sale 5 (happens_names suspended j)),
+                                    (
+                                      (λ j. act_by meat_sale 5 Power (const_names true j)),
+                                      (
+                                        (λ j. end_by meat_sale 5 Power (const_names true j) []),
+                                        (
+                                          refl,
+                                          (
+                                            (λ j. trig_by meat_sale 6 (const_names true j)),
+                                            (
+                                              (λ j. act_by meat_sale 6 Power (const_names true j)),
+                                              (
+                                                (λ j. end_by meat_sale 6 Power (const_names true j) []),
+                                                (contract_needs, tt),
+                                              ),
+                                            ),
+                                          ),
+                                        ),
+                                      ),
+                                    ),
+                                  ),
+                                ),
+                              ),
+                            ),
+                          ),
+                        ),
+                      ),
+                    ),
+                  ),
+                ),
+              ),
+            ),
+          ),
+        ),
+      ),
+    ),
+  ),
+)
 
 -- the needs of the sale as a table
 abbrev table : ℕ → List ℕ
@@ -216,14 +263,25 @@ abbrev circular_needs : List (List ℕ)
 circular_needs = (5 ∷ []) ∷ (0 ∷ []) ∷ (0 ∷ 1 ∷ []) ∷ (2 ∷ []) ∷ (3 ∷ []) ∷ (3 ∷ 4 ∷ []) ∷ (0 ∷ 1 ∷ 2 ∷ 3 ∷ 4 ∷ 5 ∷ 3 ∷ 4 ∷ 5 ∷ 0 ∷ 1 ∷ 2 ∷ []) ∷ []
 
 circular_is_needs : AreNeeds circular circular_nodes circular_needs
-circular_is_needs =
-    ((λ j. trig_by circular 0 (happens_names (Inner Violated (T.Position 1)) j)),
-    ((λ j. act_by circular 0 Obligation (const_names true j)),
-    ((λ j. end_by circular 0 Obligation (const_names true j) (happens_names (Outer 0 []) j)),
-    ((λ j. trig_by circular 1 (happens_names (Inner Violated (T.Position 0)) j)),
-    ((λ j. act_by circular 1 Obligation (const_names true j)),
-    ((λ j. end_by circular 1 Obligation (const_names true j) (happens_names (Outer 0 []) j)),
-    ((λ j. map (number_of circular) (exerts_on_contract circular ++ ((obligation_nodes 0 ++ flat_map (λ r. obligation_nodes r.0) (circular_remedies (T.Position 0) j)) ++ ((obligation_nodes 1 ++ flat_map (λ r. obligation_nodes r.0) (circular_remedies (T.Position 1) j)) ++ [])))), tt)))))))
+circular_is_needs = (
+  (λ j. trig_by circular 0 (happens_names (Inner Violated (T.Position 1)) j)),
+  (
+    (λ j. act_by circular 0 Obligation (const_names true j)),
+    (
+      (λ j. end_by circular 0 Obligation (const_names true j) (happens_names (Outer 0 []) j)),
+      (
+        (λ j. trig_by circular 1 (happens_names (Inner Violated (T.Position 0)) j)),
+        (
+          (λ j. act_by circular 1 Obligation (const_names true j)),
+          (
+            (λ j. end_by circular 1 Obligation (const_names true j) (happens_names (Outer 0 []) j)),
+            ((λ j. map (number_of circular) (exerts_on_contract circular ++ ((obligation_nodes 0 ++ flat_map (λ r. obligation_nodes r.0) (circular_remedies (T.Position 0) j)) ++ ((obligation_nodes 1 ++ flat_map (λ r. obligation_nodes r.0) (circular_remedies (T.Position 1) j)) ++ [])))), tt),
+          ),
+        ),
+      ),
+    ),
+  ),
+)
 
 pub circular_table : numbered_needs circular ≡ (λ k. get_or circular_needs k [])
 circular_table = fun_ext (needs_at circular circular_nodes circular_needs circular_is_needs)

@@ -1,3 +1,3 @@
 pub mod MeatSale
-pub mod Watched
 pub mod SaleOrder
+pub mod Watched

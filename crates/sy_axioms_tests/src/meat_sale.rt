@@ -1,5 +1,5 @@
 ghost use Rattle.std.specs.Prelude.{◌≡◌, ◌≤ℤ◌, pos, [], ◌∷◌, IfOk};
-ghost use Rattle.sy_core.specs.Soundness.{IsSound};
+ghost use Rattle.sy_core.specs.Soundness.{HasSoundParts};
 ghost use Rattle.sy_axioms_tests.specs.MeatSale as sale;
 
 use crate::report::Report;
@@ -240,7 +240,7 @@ fn positions(alloc: Global) -> Result<List<Position>, Memory>
 /// The deed of the meat sale, with 10 days to pay a price of 100.
 fn meat_sale(alloc: Global) -> Result<Deed, Memory>
     ensures is { IfOk result (λ deed. deed ≡ sale.meat_sale) }
-    ensures sound { IfOk result IsSound }
+    ensures sound { IfOk result HasSoundParts }
 {
     let mut posts = List::new(alloc);
     posts.push(happens(alloc, DELIVERED))?;

@@ -1,5 +1,5 @@
 ghost use Rattle.std.specs.Prelude.{◌≡◌, ◌<◌, ◌^◌, ◌≤ℤ◌, pos, length, IfOk};
-ghost use Rattle.sy_core.specs.Soundness.{IsSound};
+ghost use Rattle.sy_core.specs.Soundness.{HasSoundParts};
 ghost use Rattle.sy_axioms.specs.Standing.{HasDatedPoints};
 
 use std::alloc::Global;
@@ -10,12 +10,12 @@ use sy_words::Kind;
 
 /// What stands as of a date.
 #[derive(Drop)]
-pub(crate) struct Report {
-    pub(crate) plain: Plain,
+pub struct Report {
+    pub plain: Plain,
     /// The violations up to the date, by point and then by position.
-    pub(crate) violations: Vec<Mark>,
+    pub violations: Vec<Mark>,
     /// The exertions up to the date that did nothing, by point and then by position.
-    pub(crate) voids: Vec<Mark>,
+    pub voids: Vec<Mark>,
 }
 
 /// The happenings at a point.
@@ -83,13 +83,14 @@ fn add_voids(
 impl Report {
     /// What stands as of the date, where the narrative has all that happened. The deed's unit is Day,
     /// and the date isn't after the last one.
-    pub(crate) fn as_of(
+    pub fn as_of(
         alloc: Global,
         deed: &Deed,
         narrative: &[Happening],
         date: Point,
     ) -> Result<Report, Memory>
-        requires sound { IsSound deed.now }
+        requires few { length deed.now.positions < 2 ^ 32 }
+        requires sound { HasSoundParts deed.now }
         requires unit { deed.now.unit ≡ TimeUnit.Day }
         requires date { date ≤ℤ pos 376199 }
         ensures { IfOk result (λ report. HasDatedPoints report.plain deed.now) }

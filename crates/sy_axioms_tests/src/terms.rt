@@ -7,21 +7,21 @@ use sy_base::{Duration, List, Measure, Memory, Point};
 use sy_core::{Base, DateTerm, Ev, Prop};
 
 /// A declared event, without guards.
-pub(crate) fn event(alloc: Global, number: u32) -> Ev
+pub fn event(alloc: Global, number: u32) -> Ev
     ensures { result ≡ Ev.Outer number [] }
 {
     Ev::Outer(number, List::new(alloc))
 }
 
 /// That a declared event happened.
-pub(crate) fn happens(alloc: Global, number: u32) -> Prop
+pub fn happens(alloc: Global, number: u32) -> Prop
     ensures { result ≡ Prop.Happens (Ev.Outer number []) }
 {
     Prop::Happens(event(alloc, number))
 }
 
 /// A fixed date.
-pub(crate) fn on(alloc: Global, date: Point) -> DateTerm
+pub fn on(alloc: Global, date: Point) -> DateTerm
     ensures { result ≡ record { base = Base.Fixed date; plus = [] } }
 {
     DateTerm {
@@ -31,7 +31,7 @@ pub(crate) fn on(alloc: Global, date: Point) -> DateTerm
 }
 
 /// So many days after the first point at which the event happened.
-pub(crate) fn days_after(alloc: Global, first: Ev, count: u64) -> Result<DateTerm, Memory>
+pub fn days_after(alloc: Global, first: Ev, count: u64) -> Result<DateTerm, Memory>
     ensures { IfOk result (λ date. date ≡ days_after first count) }
 {
     let mut plus = List::new(alloc);
@@ -46,7 +46,7 @@ pub(crate) fn days_after(alloc: Global, first: Ev, count: u64) -> Result<DateTer
 }
 
 /// Two propositions, in order.
-pub(crate) fn pair(alloc: Global, first: Prop, second: Prop) -> Result<Items<Prop>, Memory>
+pub fn pair(alloc: Global, first: Prop, second: Prop) -> Result<Items<Prop>, Memory>
     ensures { IfOk result (λ parts. parts ≡ first ∷ second ∷ []) }
 {
     let mut parts = Items::new(alloc);

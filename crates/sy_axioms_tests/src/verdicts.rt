@@ -1,5 +1,5 @@
-ghost use Rattle.std.specs.Prelude.{◌≡◌, length, [], ◌++◌, IfOk, OnOk};
-ghost use Rattle.sy_core.specs.Soundness.{IsSound};
+ghost use Rattle.std.specs.Prelude.{◌≡◌, ◌<◌, ◌^◌, length, [], ◌++◌, IfOk, OnOk};
+ghost use Rattle.sy_core.specs.Soundness.{HasSoundParts};
 ghost use Rattle.sy_axioms_tests.specs.Watched.{null, obligation, atoms, connectives};
 
 use crate::report::Report;
@@ -85,7 +85,8 @@ fn add_with_parts(alloc: Global, props: &mut List<Prop>) -> Result<(), Memory>
 
 /// A deed from point 100 on, which has the propositions as its postconditions.
 fn watched_deed(alloc: Global) -> Result<Deed, Memory>
-    ensures sound { IfOk result IsSound }
+    ensures few { IfOk result (λ deed. length deed.positions < 2 ^ 32) }
+    ensures sound { IfOk result HasSoundParts }
     ensures unit { IfOk result (λ deed. deed.unit ≡ TimeUnit.Day) }
     ensures posts { IfOk result (λ deed. length deed.posts ≡ 14) }
 {
