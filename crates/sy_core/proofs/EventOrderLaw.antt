@@ -71,6 +71,7 @@ module _ (deed : Deed) where
         last true false h e = refl
         last false false h e = cc
         last a true h e = cc
+
         at : (b : Bool) → list_any (acts deed verb) later ≡ b → (list_any (acts deed verb) later ≡ true → Among (events_of_nodes deed later) d) → Among (events_of_nodes deed (n ∷ later)) d
         at true e rest = among_right (node_events deed n) (contract_events (here n later) ++ events_of_nodes deed later) d (among_right (contract_events (here n later)) (events_of_nodes deed later) d (rest e))
         at false e rest = among_right (node_events deed n) (contract_events (here n later) ++ events_of_nodes deed later) d (among_left (contract_events (here n later)) (events_of_nodes deed later) d (stands (here n later) (last (acts deed verb n) (list_any (acts deed verb) later) some e)))

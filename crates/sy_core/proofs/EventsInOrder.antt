@@ -381,13 +381,13 @@ module _ (deed : Deed) where
     completion_row h d a =
         let n = in_flat (λ n. events_of_position n ++ flat_map events_of_position (remedies_of deed (T.Position n.0))) (awaited deed) d a in
         let own : (m : Node) → Among (obligation_nodes n.0.0 ++ flat_map (λ remedy. obligation_nodes remedy.0) (remedies_of deed (T.Position n.0.0))) m → Before m =
-            λ m need. h m (flat_in (λ n. obligation_nodes n.0 ++ flat_map (λ remedy. obligation_nodes remedy.0) (remedies_of deed (T.Position n.0))) (awaited deed) n.0 m n.1 need) in
+        λ m need. h m (flat_in (λ n. obligation_nodes n.0 ++ flat_map (λ remedy. obligation_nodes remedy.0) (remedies_of deed (T.Position n.0))) (awaited deed) n.0 m n.1 need) in
         elim (among_append (events_of_position n.0) (flat_map events_of_position (remedies_of deed (T.Position n.0.0))) d n.2) [
           | inl here ↦ obligation_gone n.0 (awaited_is_obligation n.0.1.form (kept_passes (λ n. is_awaited n.1.form) (numbered deed) n.0 n.1)) (λ m need. own m (among_left (obligation_nodes n.0.0) (flat_map (λ remedy. obligation_nodes remedy.0) (remedies_of deed (T.Position n.0.0))) m need)) d here
           | inr there ↦
-            let r = in_flat events_of_position (remedies_of deed (T.Position n.0.0)) d there in
-            obligation_gone r.0 (and_left (is_obligation r.0.1.form) _ (kept_passes (λ k. is_remedy (T.Position n.0.0) k.1) (numbered deed) r.0 r.1))
-            (λ m need. own m (among_right (obligation_nodes n.0.0) (flat_map (λ remedy. obligation_nodes remedy.0) (remedies_of deed (T.Position n.0.0))) m (flat_in (λ remedy. obligation_nodes remedy.0) (remedies_of deed (T.Position n.0.0)) r.0 m r.1 need))) d r.2
+              let r = in_flat events_of_position (remedies_of deed (T.Position n.0.0)) d there in
+              obligation_gone r.0 (and_left (is_obligation r.0.1.form) _ (kept_passes (λ k. is_remedy (T.Position n.0.0) k.1) (numbered deed) r.0 r.1))
+              (λ m need. own m (among_right (obligation_nodes n.0.0) (flat_map (λ remedy. obligation_nodes remedy.0) (remedies_of deed (T.Position n.0.0))) m (flat_in (λ remedy. obligation_nodes remedy.0) (remedies_of deed (T.Position n.0.0)) r.0 m r.1 need))) d r.2
         ]
 
     completed_row : ((m : Node) → Among (needs deed Contract) m → Before m) → (d : InternalEvent) → Among (reads deed Completed T.Contract) d → Gone d
@@ -437,17 +437,16 @@ module _ (deed : Deed) where
 
     local_clear : (past es : List InternalEvent) → past ++ es ≡ node_events deed n → Local past es → ClearBefore behind es
     local_clear past [] same h = tt
-    local_clear past (e ∷ es) same h =
-        (
-          λ d read a. elim (h.0 d read) [
-            | inl gone ↦ gone (subst (λ l. Among (l ++ behind) d) same (subst (λ l. Among l d) (sym (append_assoc past (e ∷ es) behind)) (among_right past ((e ∷ es) ++ behind) d a)))
-            | inr own ↦ elim (among_append (e ∷ es) behind d a) [
-              | inl here ↦ own.1 here
-              | inr rest ↦ not_behind d (node_home deed n d (subst (λ l. Among l d) same (among_left past (e ∷ es) d own.0))) rest
-            ]
-          ],
-          local_clear (past ++ e ∷ []) es (append_assoc past (e ∷ []) es ∙ same) h.1,
-        )
+    local_clear past (e ∷ es) same h = (
+      λ d read a. elim (h.0 d read) [
+        | inl gone ↦ gone (subst (λ l. Among (l ++ behind) d) same (subst (λ l. Among l d) (sym (append_assoc past (e ∷ es) behind)) (among_right past ((e ∷ es) ++ behind) d a)))
+        | inr own ↦ elim (among_append (e ∷ es) behind d a) [
+          | inl here ↦ own.1 here
+          | inr rest ↦ not_behind d (node_home deed n d (subst (λ l. Among l d) same (among_left past (e ∷ es) d own.0))) rest
+        ]
+      ],
+      local_clear (past ++ e ∷ []) es (append_assoc past (e ∷ []) es ∙ same) h.1,
+    )
 
   -- of two events of one target, those of different kinds differ
   apart : (k l : Kind) (x : Target) (d : InternalEvent) → (k ≡ l → ⊥) → (k, x) ≡ d → (l, x) ≡ d → ⊥
@@ -473,10 +472,13 @@ module _ (deed : Deed) where
         × (ActRow o Suspended ((Activated, x) ∷ (Resumed, x) ∷ []) ((Suspended, x) ∷ [])
         × Unit {0}))
     act_rows None is h = (λ d m. absurd m, (λ d m. absurd m, (λ d m. absurd m, tt)))
-    act_rows (Some p) is h =
-        (λ d m. inl (activated_row (Act i ∷ later) all i p is h d m),
-        (λ d m. inl (resumed_row (Act i ∷ later) all i p is h d m),
-        (λ d m. elim (suspended_row (Act i ∷ later) all i p is h d m) [ inl gone ↦ inl gone | inr own ↦ inr (own, not_last d own) ], tt)))
+    act_rows (Some p) is h = (
+      λ d m. inl (activated_row (Act i ∷ later) all i p is h d m),
+      (
+        λ d m. inl (resumed_row (Act i ∷ later) all i p is h d m),
+        (λ d m. elim (suspended_row (Act i ∷ later) all i p is h d m) [ inl gone ↦ inl gone | inr own ↦ inr (own, not_last d own) ], tt),
+      ),
+    )
 
   -- the events of the node by which a position ends
   module _ (i : ℕ) (later : List Node) (ordered : InOrder deed (End i ∷ later)) (all : (m : Node) → Among (End i ∷ later) m → Among (nodes deed) m) where
@@ -501,20 +503,30 @@ module _ (deed : Deed) where
       read_at kind d m = subst (λ o. Among (reads_of deed i o kind) d) is m
 
       obligation_local : Local (End i) later ordered all [] (obligation_ends y)
-      obligation_local =
-          (λ d m. inl (discharged_row (End i ∷ later) all i p is h d (read_at Discharged d m)),
-          (λ d m. inl (terminated_row (End i ∷ later) all i p is h d (read_at Terminated d m)),
-          (λ d m. inl (expired_row (End i ∷ later) all i p is h d (read_at Expired d m)),
-          (λ d m. elim (duty_row (End i ∷ later) all i p is h d (read_at Fulfilled d m)) [ inl gone ↦ inl gone | inr own ↦ inr (among_more d ((Expired, y) ∷ []) own, not_own_end d own) ],
-          (λ d m. elim (duty_row (End i ∷ later) all i p is h d (read_at Violated d m)) [ inl gone ↦ inl gone | inr own ↦ inr (among_more d ((Expired, y) ∷ (Fulfilled, y) ∷ []) own, λ a. not_own_end d own (inr a)) ],
-          tt)))))
+      obligation_local = (
+        λ d m. inl (discharged_row (End i ∷ later) all i p is h d (read_at Discharged d m)),
+        (
+          λ d m. inl (terminated_row (End i ∷ later) all i p is h d (read_at Terminated d m)),
+          (
+            λ d m. inl (expired_row (End i ∷ later) all i p is h d (read_at Expired d m)),
+            (
+              λ d m. elim (duty_row (End i ∷ later) all i p is h d (read_at Fulfilled d m)) [ inl gone ↦ inl gone | inr own ↦ inr (among_more d ((Expired, y) ∷ []) own, not_own_end d own) ],
+              (
+                λ d m. elim (duty_row (End i ∷ later) all i p is h d (read_at Violated d m)) [ inl gone ↦ inl gone | inr own ↦ inr (among_more d ((Expired, y) ∷ (Fulfilled, y) ∷ []) own, λ a. not_own_end d own (inr a)) ],
+                tt,
+              ),
+            ),
+          ),
+        ),
+      )
 
       form_local : (form : Form) → Local (End i) later ordered all [] (end_events y form)
       form_local Obligation = obligation_local
       form_local Surviving = obligation_local
-      form_local Power =
-          (λ d m. inl (terminated_row (End i ∷ later) all i p is h d (read_at Terminated d m)),
-          (λ d m. inl (expired_row (End i ∷ later) all i p is h d (read_at Expired d m)), tt))
+      form_local Power = (
+        λ d m. inl (terminated_row (End i ∷ later) all i p is h d (read_at Terminated d m)),
+        (λ d m. inl (expired_row (End i ∷ later) all i p is h d (read_at Expired d m)), tt),
+      )
 
     end_local : (o : Option Position) → slice_get deed.positions i ≡ o → ((m : Node) → Among (needs_at deed (end_needs deed) i o) m → Among (End i ∷ later) m → ⊥) → Local (End i) later ordered all [] (end_events_of y o)
     end_local None is h = tt
@@ -535,16 +547,15 @@ module _ (deed : Deed) where
   -- the contract's events without a node, where their exertions don't come later
   if_clear : (rest : List InternalEvent) (kind : Kind) (verb : Verb) (b : Bool) → (reads deed kind T.Contract ≡ exertions deed verb T.Contract) → (Exerted ≡ kind → ⊥) → (b ≡ true → (d : InternalEvent) → Among (exertions deed verb T.Contract) d → Among rest d → ⊥) → ClearBefore rest (event_if b kind)
   if_clear rest kind verb false is other h = tt
-  if_clear rest kind verb true is other h =
-      (
-        λ d read a.
+  if_clear rest kind verb true is other h = (
+    λ d read a.
         let m = subst (λ l. Among l d) is read in
         elim a [
           | inl e ↦ let x = exertion_acts verb d m in other (ap (λ y. y.0) (x.1 ∙ sym e))
           | inr a ↦ h refl d m a
         ],
-        tt,
-      )
+    tt,
+  )
 
   module _ (rest : List Node) (p : Verb → Bool) (none : (verb : Verb) → p verb ≡ true → none_acts deed rest verb ≡ true) where
     past_exertion : (verb : Verb) → p verb ≡ true → (d : InternalEvent) → Among (exertions deed verb T.Contract) d → Among (events_of_nodes deed rest) d → ⊥
@@ -564,28 +575,28 @@ module _ (deed : Deed) where
     contract_clear =
         clear_both (event_if (p Verbs.Resumes) Resumed) (event_if (p Verbs.Suspends) Suspended ++ event_if (p Verbs.Terminates) Terminated) (events_of_nodes deed rest)
         (if_clear ((event_if (p Verbs.Suspends) Suspended ++ event_if (p Verbs.Terminates) Terminated) ++ events_of_nodes deed rest) Resumed Verbs.Resumes (p Verbs.Resumes) refl (λ e. cc)
-          (λ e d m a. elim (among_append (event_if (p Verbs.Suspends) Suspended ++ event_if (p Verbs.Terminates) Terminated) (events_of_nodes deed rest) d a) [
-            | inl c ↦ elim (among_append (event_if (p Verbs.Suspends) Suspended) (event_if (p Verbs.Terminates) Terminated) d c) [
-              | inl s ↦ no_exertion (p Verbs.Suspends) Suspended d Verbs.Resumes m (λ e. cc) s
-              | inr t ↦ no_exertion (p Verbs.Terminates) Terminated d Verbs.Resumes m (λ e. cc) t
-            ]
-            | inr r ↦ past_exertion Verbs.Resumes e d m r
-          ]))
+        (λ e d m a. elim (among_append (event_if (p Verbs.Suspends) Suspended ++ event_if (p Verbs.Terminates) Terminated) (events_of_nodes deed rest) d a) [
+          | inl c ↦ elim (among_append (event_if (p Verbs.Suspends) Suspended) (event_if (p Verbs.Terminates) Terminated) d c) [
+            | inl s ↦ no_exertion (p Verbs.Suspends) Suspended d Verbs.Resumes m (λ e. cc) s
+            | inr t ↦ no_exertion (p Verbs.Terminates) Terminated d Verbs.Resumes m (λ e. cc) t
+          ]
+          | inr r ↦ past_exertion Verbs.Resumes e d m r
+        ]))
         (clear_both (event_if (p Verbs.Suspends) Suspended) (event_if (p Verbs.Terminates) Terminated) (events_of_nodes deed rest)
-          (if_clear (event_if (p Verbs.Terminates) Terminated ++ events_of_nodes deed rest) Suspended Verbs.Suspends (p Verbs.Suspends) refl (λ e. cc)
-            (λ e d m a. elim (among_append (event_if (p Verbs.Terminates) Terminated) (events_of_nodes deed rest) d a) [
-              | inl t ↦ no_exertion (p Verbs.Terminates) Terminated d Verbs.Suspends m (λ e. cc) t
-              | inr r ↦ past_exertion Verbs.Suspends e d m r
-            ]))
-          (if_clear (events_of_nodes deed rest) Terminated Verbs.Terminates (p Verbs.Terminates) refl (λ e. cc) (λ e d m a. past_exertion Verbs.Terminates e d m a)))
+        (if_clear (event_if (p Verbs.Terminates) Terminated ++ events_of_nodes deed rest) Suspended Verbs.Suspends (p Verbs.Suspends) refl (λ e. cc)
+        (λ e d m a. elim (among_append (event_if (p Verbs.Terminates) Terminated) (events_of_nodes deed rest) d a) [
+          | inl t ↦ no_exertion (p Verbs.Terminates) Terminated d Verbs.Suspends m (λ e. cc) t
+          | inr r ↦ past_exertion Verbs.Suspends e d m r
+        ]))
+        (if_clear (events_of_nodes deed rest) Terminated Verbs.Terminates (p Verbs.Terminates) refl (λ e. cc) (λ e d m a. past_exertion Verbs.Terminates e d m a)))
 
   nodes_clear : (ns : List Node) → InOrder deed ns → ((m : Node) → Among ns m → Among (nodes deed) m) → Clear (events_of_nodes deed ns)
   nodes_clear [] ordered all = tt
   nodes_clear (n ∷ later) ordered all =
       clear_append (node_events deed n) (behind n later ordered all) (local_clear n later ordered all [] (node_events deed n) refl (local_events n later ordered all))
       (clear_append (contract_events (passes n later ordered all)) (events_of_nodes deed later)
-        (contract_clear later (passes n later ordered all) (λ verb e. and_right (acts deed verb n) (none_acts deed later verb) e))
-        (nodes_clear later ordered.2 (λ m a. all m (inr a))))
+      (contract_clear later (passes n later ordered all) (λ verb e. and_right (acts deed verb n) (none_acts deed later verb) e))
+      (nodes_clear later ordered.2 (λ m a. all m (inr a))))
 
   -- none of those that an event's condition looks at stands from it on
   pub order_is_clear : Clear (event_order deed)

@@ -191,12 +191,16 @@ all_are_one w h (suc n) e k lt = at (k == n) refl (λ whole lt. all_are_one w h 
   where
     a : total w n ≤ n
     a = total_is_low w h n
+
     b : w n ≤ 1
     b = h n
+
     whole : total w n ≡ n
     whole = omega (arith, a, b, e)
+
     last : w n ≡ 1
     last = omega (arith, a, b, e)
+
     at : (t : Bool) → (k == n) ≡ t → (total w n ≡ n → k < n → w k ≡ 1) → w k ≡ 1
     at true s later = ap w ((Decides-eqb k n).0 s) ∙ last
     at false s later = later whole (smaller k n lt (λ q. let t = (Decides-eqb k n).1 q in cc))

@@ -73,6 +73,7 @@ of_position form i n m = at form m
     three (inr (inl e)) = subst (IsOf i) e refl
     three (inr (inr (inl e))) = subst (IsOf i) e refl
     three (inr (inr (inr none))) = absurd none
+
     at : (form : Form) → Among (nodes_of form i) n → IsOf i n
     at Obligation m = three m
     at Surviving m = three m
@@ -105,10 +106,14 @@ once_of : (form : Form) (i : ℕ) → IsOnce (nodes_of form i)
 once_of form i = at form
   where
     three : IsOnce (Trig i ∷ Act i ∷ End i ∷ [])
-    three =
-        (λ m. elim m [ inl e ↦ cc | inr m ↦ elim m [ inl e ↦ cc | inr none ↦ none ] ],
-        (λ m. elim m [ inl e ↦ cc | inr none ↦ none ],
-        (λ none. none, tt)))
+    three = (
+      λ m. elim m [ inl e ↦ cc | inr m ↦ elim m [ inl e ↦ cc | inr none ↦ none ] ],
+      (
+        λ m. elim m [ inl e ↦ cc | inr none ↦ none ],
+        (λ none. none, tt),
+      ),
+    )
+
     at : (form : Form) → IsOnce (nodes_of form i)
     at Obligation = three
     at Surviving = three
@@ -199,13 +204,14 @@ module _ (deed : Deed) where
     where
       at : (o : Option Node) → slice_get (nodes deed) k ≡ o → InOrder deed (nodes_at deed ks) → InOrder deed (node_list o ++ nodes_at deed ks)
       at None is rest = rest
-      at (Some n) is rest =
-          (λ m need a.
-          let l = need_listed done (needs deed n) (subst (λ o. list_all (is_listed done) (numbered_needs_of deed o) ≡ true) is h.2) m need in
-          let lt = listed_is_below count done (number_of deed m) below l in
-          not_again done (k ∷ ks) h (number_of deed m) m l (found_node m (nodes deed) lt) (subst (λ o. Among (node_list o ++ nodes_at deed ks) m) (sym is) a),
-          λ a. not_again (done ++ k ∷ []) ks h.3 k n (listed_last done k) is a,
-          rest)
+      at (Some n) is rest = (
+        λ m need a.
+            let l = need_listed done (needs deed n) (subst (λ o. list_all (is_listed done) (numbered_needs_of deed o) ≡ true) is h.2) m need in
+            let lt = listed_is_below count done (number_of deed m) below l in
+            not_again done (k ∷ ks) h (number_of deed m) m l (found_node m (nodes deed) lt) (subst (λ o. Among (node_list o ++ nodes_at deed ks) m) (sym is) a),
+        λ a. not_again (done ++ k ∷ []) ks h.3 k n (listed_last done k) is a,
+        rest,
+      )
 
   -- in their order each node stands after those that it needs
   pub nodes_are_in_order : InOrder deed (nodes_in_order deed)
