@@ -1,1 +1,4 @@
-pub mod SaleNodes
+pub mod ByNumber
+pub mod CrossedNeeds
+pub mod Naming
+pub mod SaleNeeds

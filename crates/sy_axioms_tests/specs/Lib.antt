@@ -1,3 +1,4 @@
+pub mod Crossed
 pub mod MeatSale
 pub mod SaleOrder
 pub mod Watched

@@ -110,6 +110,11 @@ p_end = power (codes "pEnd") (Props.Const true) Terminates T.Contract
 abbrev pub sale_positions : List Position
 sale_positions = o_deliver ∷ o_pay ∷ o_late ∷ o_secret ∷ p_hold ∷ p_go ∷ p_end ∷ []
 
+-- the order in which the nodes of a point are evaluated, worked out by hand
+abbrev pub sale_numbers : List ℕ
+sale_numbers =
+    0 ∷ 1 ∷ 3 ∷ 9 ∷ 10 ∷ 11 ∷ 12 ∷ 13 ∷ 14 ∷ 16 ∷ 4 ∷ 17 ∷ 18 ∷ 20 ∷ 2 ∷ 5 ∷ 6 ∷ 7 ∷ 8 ∷ 15 ∷ 19 ∷ 21 ∷ 22 ∷ 23 ∷ 24 ∷ []
+
 abbrev pub meat_sale : Deed
 meat_sale = record {
   unit = Day;
@@ -118,5 +123,5 @@ meat_sale = record {
   choices = [];
   positions = sale_positions;
   posts = Props.Happens delivered ∷ [];
-  order = [];
+  order = sale_numbers;
 }

@@ -12,5 +12,5 @@ mod terms;
 mod verdicts;
 
 pub use report::Report;
-pub use sale_order::{circular_deed_has_a_cycle, sale_is_ordered};
+pub use sale_order::{crossed_needs_have_a_cycle, sale_is_ordered};
 pub use terms::{days_after, event, happens, on, pair};

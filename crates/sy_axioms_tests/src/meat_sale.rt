@@ -35,6 +35,11 @@ const END: u32 = 6;
 /// The point of the last day of February 2024.
 const FEBRUARY_29: Point = 19_782;
 
+/// The order in which the nodes of a point are evaluated.
+const ORDER: [u32; 25] = [
+    0, 1, 3, 9, 10, 11, 12, 13, 14, 16, 4, 17, 18, 20, 2, 5, 6, 7, 8, 15, 19, 21, 22, 23, 24,
+];
+
 /// What happens in a row.
 #[derive(Clone, Copy)]
 enum Entry {
@@ -237,6 +242,17 @@ fn positions(alloc: Global) -> Result<List<Position>, Memory>
     Ok(positions)
 }
 
+/// The numbers, in their order.
+fn listed(alloc: Global, numbers: &[u32]) -> Result<List<u32>, Memory>
+    ensures { IfOk result (λ order. order ≡ numbers.now) }
+{
+    let mut order = List::new(alloc);
+    for number in numbers {
+        order.push(*number)?;
+    }
+    Ok(order)
+}
+
 /// The deed of the meat sale, with 10 days to pay a price of 100.
 fn meat_sale(alloc: Global) -> Result<Deed, Memory>
     ensures is { IfOk result (λ deed. deed ≡ sale.meat_sale) }
@@ -251,7 +267,7 @@ fn meat_sale(alloc: Global) -> Result<Deed, Memory>
         choices: List::new(alloc),
         positions: positions(alloc)?,
         posts,
-        order: List::new(alloc),
+        order: listed(alloc, &ORDER)?,
     })
 }
 
