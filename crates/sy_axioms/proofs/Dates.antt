@@ -9,7 +9,8 @@ use Rattle.sy_base.specs.declared.time.TimeUnit.TheVariants.{Minute, Hour, Day a
 use Rattle.sy_base.specs.declared.time.Measure.{Measure}
 use Rattle.sy_base.specs.declared.time.Measure.TheVariants.{Minutes, Hours, Days, Weeks}
 use Rattle.sy_base.specs.declared.time.Duration.{Duration}
-use Rattle.sy_base.specs.Points.{IsDated, IsAddable, is_finer, greatest_count, least_point, greatest_point, minutes_of_measure, minutes_of_unit, added}
+use Rattle.sy_base.specs.Measures.{minutes_of_measure, greatest_count, is_finer, added}
+use Rattle.sy_base.specs.Points.{IsDated, IsAddable, least_point, greatest_point, minutes_of_unit}
 use Rattle.sy_core.specs.declared.date_term.DateTerm.{DateTerm}
 use Rattle.sy_core.specs.declared.deed.Deed.{Deed}
 use Rattle.sy_core.specs.declared.event.Ev.{Ev}

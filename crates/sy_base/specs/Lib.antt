@@ -1,3 +1,4 @@
 pub mod Dates
+pub mod Measures
 pub mod Points
 pub mod Refusals

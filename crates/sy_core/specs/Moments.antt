@@ -6,7 +6,7 @@ use Rattle.std.specs.Option.{option_map}
 use Rattle.std.specs.List.{list_any}
 use Rattle.sy_base.specs.declared.time.TimeUnit.{TimeUnit}
 use Rattle.sy_base.specs.declared.time.Duration.{Duration}
-use Rattle.sy_base.specs.Points.{added}
+use Rattle.sy_base.specs.Measures.{added}
 use Rattle.sy_core.specs.declared.event.Ev.{Ev}
 use Rattle.sy_core.specs.declared.kind.Target.{Target}
 use Rattle.sy_core.specs.declared.state.StateOf.{StateOf}

@@ -5,7 +5,8 @@ use Rattle.std.specs.List.{list_any, list_all}
 use Rattle.std.specs.Cmp.Lexicographic.{pointwise}
 use Rattle.sy_base.specs.declared.time.TimeUnit.{TimeUnit}
 use Rattle.sy_base.specs.declared.time.Duration.{Duration}
-use Rattle.sy_base.specs.Points.{IsDated, is_finer, greatest_count}
+use Rattle.sy_base.specs.Measures.{is_finer, greatest_count}
+use Rattle.sy_base.specs.Points.{IsDated}
 use Rattle.sy_words.specs.declared.kind.Kind.{Kind}
 use Rattle.sy_words.specs.declared.kind.Kind.TheVariants.{Exerted, Triggered, Activated, Resumed, Suspended, Fulfilled, Violated, Expired, Discharged, Terminated, Completed}
 use Rattle.sy_core.specs.declared.kind.Target.{Target}

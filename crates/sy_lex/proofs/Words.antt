@@ -13,12 +13,15 @@ use Rattle.std.specs.List.{find, list_all, position_or_len, slice_get}
 use Rattle.std.specs.List.Sorted.{IsSortedBy, IsNonDecreasingBy, IsPartitionPoint}
 use Rattle.std.specs.Ordering.{is_lt, nat_cmp, ordering_index}
 use Rattle.std.specs.Cmp.Lexicographic.{pointwise, bytes_decides, slice_cmp}
+use Rattle.sy_base.specs.declared.time.Measure.{Measure}
+use Rattle.sy_base.specs.declared.time.Measure.TheVariants as M
+use Rattle.sy_base.specs.Measures.{singular_word, plural_word}
 use Rattle.sy_lex.specs.declared.keyword.Keyword.{Keyword}
 use Rattle.sy_lex.specs.declared.keyword.Keyword.TheVariants as K
 use Rattle.sy_lex.specs.declared.keyword.TheConstants.{KEYWORDS}
 use Rattle.sy_lex.specs.Bytes.{is_letter, is_word_byte}
 use Rattle.sy_lex.specs.Forms.{IsWord}
-use Rattle.sy_lex.specs.Keywords.{keyword_text, keyword_of}
+use Rattle.sy_lex.specs.Keywords.{keyword_text, keyword_of, singular_keyword, plural_keyword}
 
 -- ---- each word is found by its text, and nothing else is
 
@@ -51,6 +54,16 @@ pub is_answer : (text : List ℕ) (answer : Option Keyword) → keyword_of text 
     → (keyword : Keyword) → (answer ≡ Some keyword) ↔ (keyword_text keyword ≡ text)
 is_answer text answer is keyword =
     (λ some. keyword_is text keyword (is ∙ some), λ is_text. sym is ∙ keyword_found text keyword is_text)
+
+-- ---- the two words of a measure are written as the measure says
+
+pub singular_keyword-text : (measure : Measure) → keyword_text (singular_keyword measure) ≡ singular_word measure
+singular_keyword-text M.Minutes = refl
+singular_keyword-text measure = refl
+
+pub plural_keyword-text : (measure : Measure) → keyword_text (plural_keyword measure) ≡ plural_word measure
+plural_keyword-text M.Minutes = refl
+plural_keyword-text measure = refl
 
 -- ---- each text has the form of a word
 

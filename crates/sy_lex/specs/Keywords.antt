@@ -1,7 +1,10 @@
--- The reserved words, each with its text.
+-- The reserved words, each with its text, and the two words of each measure.
 use Rattle.std.specs.Prelude.{ℕ, List, codes, Option, nat_eq}
 use Rattle.std.specs.List.{find}
 use Rattle.std.specs.Cmp.Lexicographic.{pointwise}
+use Rattle.sy_base.specs.declared.time.Measure.{Measure}
+use Rattle.sy_base.specs.declared.time.Measure.TheVariants as M
+use Rattle.sy_base.specs.Measures.{singular_word, plural_word}
 use Rattle.sy_lex.specs.declared.keyword.Keyword.{Keyword}
 use Rattle.sy_lex.specs.declared.keyword.Keyword.TheVariants as K
 use Rattle.sy_lex.specs.declared.keyword.TheConstants.{KEYWORDS}
@@ -20,14 +23,14 @@ keyword_text K.Env = codes "Env"
 keyword_text K.Contract = codes "Contract"
 keyword_text K.EndContract = codes "endContract"
 keyword_text K.Unit = codes "unit"
-keyword_text K.Minute = codes "Minute"
-keyword_text K.Minutes = codes "Minutes"
-keyword_text K.Hour = codes "Hour"
-keyword_text K.Hours = codes "Hours"
-keyword_text K.Day = codes "Day"
-keyword_text K.Days = codes "Days"
-keyword_text K.Week = codes "Week"
-keyword_text K.Weeks = codes "Weeks"
+keyword_text K.Minute = singular_word M.Minutes
+keyword_text K.Minutes = plural_word M.Minutes
+keyword_text K.Hour = singular_word M.Hours
+keyword_text K.Hours = plural_word M.Hours
+keyword_text K.Day = singular_word M.Days
+keyword_text K.Days = plural_word M.Days
+keyword_text K.Week = singular_word M.Weeks
+keyword_text K.Weeks = plural_word M.Weeks
 keyword_text K.Month = codes "Month"
 keyword_text K.Months = codes "Months"
 keyword_text K.Year = codes "Year"
@@ -96,3 +99,17 @@ keyword_text K.End = codes "end"
 -- the reserved word with this text, if there is one
 unfoldable pub keyword_of : List ℕ → Option Keyword
 keyword_of text = find (λ keyword. pointwise nat_eq (keyword_text keyword) text) KEYWORDS
+
+-- the reserved word of a measure in the singular
+abbrev pub singular_keyword : Measure → Keyword
+singular_keyword M.Minutes = K.Minute
+singular_keyword M.Hours = K.Hour
+singular_keyword M.Days = K.Day
+singular_keyword M.Weeks = K.Week
+
+-- and in the plural
+abbrev pub plural_keyword : Measure → Keyword
+plural_keyword M.Minutes = K.Minutes
+plural_keyword M.Hours = K.Hours
+plural_keyword M.Days = K.Days
+plural_keyword M.Weeks = K.Weeks

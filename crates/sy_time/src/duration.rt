@@ -1,6 +1,7 @@
 ghost use Rattle.std.specs.Prelude.{◌≡◌, ◌*◌, ◌/◌, ◌≤◌, ◌≤ℤ◌, ◌+ℤ◌, pos, false};
 ghost use Rattle.sy_base.specs.Dates.{units_of_day};
-ghost use Rattle.sy_base.specs.Points.{IsAddable, added, greatest_count, is_finer, minutes_of_measure, minutes_of_unit};
+ghost use Rattle.sy_base.specs.Measures.{added, greatest_count, is_finer, minutes_of_measure};
+ghost use Rattle.sy_base.specs.Points.{IsAddable, minutes_of_unit};
 
 use crate::unit::minutes_of_unit;
 use sy_base::{Duration, Measure, Point, TimeUnit};
