@@ -1,1 +1,2 @@
 pub mod DateTexts
+pub mod Numbered
