@@ -1,5 +1,6 @@
 pub mod Matching
 pub mod Moments
+pub mod StateWords
 pub mod States
 pub mod Propositions
 pub mod Mentions

@@ -37,7 +37,7 @@ pub use remedy::{has_holds, is_remedy};
 pub use rounds_law::rounds_settle;
 pub use soundness_law::soundness_bounds;
 pub use sqlite_items::{Boxed, Items};
-pub use state::{StateOf, copy_states, is_same_state};
+pub use state::{StateOf, copy_states, is_same_state, state_named, state_word};
 pub use sy_words::{Cmp, Form, Kind, Verb};
 pub use table::{Mark, Table, Verdict};
 pub use value::{Value, ValueKind};

@@ -1,4 +1,5 @@
 ghost use Rattle.std.specs.Prelude.{◌≡◌, IfOk};
+ghost use Rattle.sy_core.specs.StateWords as words;
 ghost use Rattle.sy_core.specs.States.{same_state};
 
 use std::alloc::Global;
@@ -22,6 +23,48 @@ pub enum StateOf {
     UnsuccessfulTermination,
     /// The contract before its start.
     Form,
+}
+
+/// All states.
+const STATES: [StateOf; 10] = [
+    StateOf::Null,
+    StateOf::Create,
+    StateOf::InEffect,
+    StateOf::Suspension,
+    StateOf::Fulfillment,
+    StateOf::Violation,
+    StateOf::Discharge,
+    StateOf::SuccessfulTermination,
+    StateOf::UnsuccessfulTermination,
+    StateOf::Form,
+];
+
+/// The word of a state: the name of its variant.
+pub fn state_word(state: StateOf) -> &'static [u8]
+    ensures { result.now ≡ words.state_word state }
+{
+    match state {
+        StateOf::Null => b"Null",
+        StateOf::Create => b"Create",
+        StateOf::InEffect => b"InEffect",
+        StateOf::Suspension => b"Suspension",
+        StateOf::Fulfillment => b"Fulfillment",
+        StateOf::Violation => b"Violation",
+        StateOf::Discharge => b"Discharge",
+        StateOf::SuccessfulTermination => b"SuccessfulTermination",
+        StateOf::UnsuccessfulTermination => b"UnsuccessfulTermination",
+        StateOf::Form => b"Form",
+    }
+}
+
+/// The state with this word, if there is one.
+pub fn state_named(word: &[u8]) -> Option<StateOf>
+    ensures { result ≡ words.state_named word.now }
+{
+    STATES
+        .iter()
+        .copied()
+        .find(|state| state_word(*state) == word)
 }
 
 /// Whether the states are the same.
