@@ -8,24 +8,11 @@ use Rattle.sy_core.specs.declared.position.Position.{Position}
 use Rattle.sy_words.specs.declared.form.Form.{Form}
 use Rattle.sy_words.specs.declared.form.Form.TheVariants as F
 use Rattle.sy_core.specs.declared.state.StateOf.{StateOf}
-use Rattle.sy_core.specs.declared.state.StateOf.TheVariants as S
+use Rattle.sy_core.specs.StateWords.{state_word}
 use Rattle.sy_core.specs.declared.table.Verdict.{Verdict}
 use Rattle.sy_core.specs.declared.table.Verdict.TheVariants as V
 use Rattle.sy_core.specs.declared.table.Mark.{Mark}
 use Rattle.sy_core.specs.declared.table.Table.{Table}
-
--- the word of a state
-abbrev pub state_word : StateOf → List ℕ
-state_word S.Null = codes "Null"
-state_word S.Create = codes "Create"
-state_word S.InEffect = codes "InEffect"
-state_word S.Suspension = codes "Suspension"
-state_word S.Fulfillment = codes "Fulfillment"
-state_word S.Violation = codes "Violation"
-state_word S.Discharge = codes "Discharge"
-state_word S.SuccessfulTermination = codes "SuccessfulTermination"
-state_word S.UnsuccessfulTermination = codes "UnsuccessfulTermination"
-state_word S.Form = codes "Form"
 
 -- the word of a position's form
 abbrev pub form_word : Form → List ℕ

@@ -1,11 +1,11 @@
 ghost use Rattle.std.specs.Prelude.{◌≡◌, ◌++◌, IfOk, OnOk, string_bytes};
-ghost use Rattle.sy_run.specs.RefusalText as text;
+ghost use Rattle.sy_report.specs.RefusalText as text;
 
 use std::alloc::{AllocError, Global};
 use sy_base::{FaultName, FileKind, Memory, Place, Refusal, Text};
 
 /// A refusal of a whole file, without a place.
-pub(crate) fn whole(alloc: Global, file: FileKind, name: FaultName) -> Refusal
+pub fn whole(alloc: Global, file: FileKind, name: FaultName) -> Refusal
     ensures { result ≡ text.whole file name }
 {
     Refusal {
@@ -17,7 +17,7 @@ pub(crate) fn whole(alloc: Global, file: FileKind, name: FaultName) -> Refusal
 }
 
 /// A refusal of a line of a file.
-pub(crate) fn of_line(alloc: Global, file: FileKind, line: u64, name: FaultName) -> Refusal
+pub fn of_line(alloc: Global, file: FileKind, line: u64, name: FaultName) -> Refusal
     ensures { result ≡ text.of_line file line name }
 {
     Refusal {
@@ -75,7 +75,7 @@ fn head_text(
 }
 
 /// The line of a refusal.
-pub(crate) fn refusal_text(alloc: Global, refusal: &Refusal) -> Result<Text, Memory>
+pub fn refusal_text(alloc: Global, refusal: &Refusal) -> Result<Text, Memory>
     ensures { IfOk result (λ line. line ≡ text.refusal_text refusal.now) }
 {
     let place = place_text(alloc, refusal.place)?;

@@ -2,32 +2,14 @@ ghost use Rattle.std.specs.Prelude.{◌≡◌, ◌++◌, ◌∷◌, [], OnOk, If
 ghost use Rattle.std.specs.List.{flat_map};
 ghost use Rattle.sy_base.specs.Dates.{date_text};
 ghost use Rattle.sy_base.specs.Points.{IsDated};
-ghost use Rattle.sy_run.specs.Printing.{IsPrintable};
-ghost use Rattle.sy_run.specs.ReportText as text;
+ghost use Rattle.sy_report.specs.Printing.{IsPrintable};
+ghost use Rattle.sy_report.specs.ReportText as text;
 
 use std::alloc::{AllocError, Global};
 use sy_base::{Memory, Point, Text, TimeUnit};
-use sy_core::{Deed, Mark, Position, StateOf, Table, Verdict};
+use sy_core::{Deed, Mark, Position, StateOf, Table, Verdict, state_word};
 use sy_time::write_date;
 use sy_words::Form;
-
-/// The word of a state.
-fn state_word(state: StateOf) -> &'static [u8]
-    ensures { result.now ≡ text.state_word state }
-{
-    match state {
-        StateOf::Null => b"Null",
-        StateOf::Create => b"Create",
-        StateOf::InEffect => b"InEffect",
-        StateOf::Suspension => b"Suspension",
-        StateOf::Fulfillment => b"Fulfillment",
-        StateOf::Violation => b"Violation",
-        StateOf::Discharge => b"Discharge",
-        StateOf::SuccessfulTermination => b"SuccessfulTermination",
-        StateOf::UnsuccessfulTermination => b"UnsuccessfulTermination",
-        StateOf::Form => b"Form",
-    }
-}
 
 /// The word of a position's form.
 fn form_word(form: Form) -> &'static [u8]
@@ -159,7 +141,7 @@ fn add_marks(out: &mut Vec<u8>, word: &[u8], deed: &Deed, marks: &[Mark]) -> Res
 }
 
 /// The report of a table.
-pub(crate) fn report_text(alloc: Global, deed: &Deed, table: &Table) -> Result<Text, Memory>
+pub fn report_text(alloc: Global, deed: &Deed, table: &Table) -> Result<Text, Memory>
     requires { IsPrintable deed.now table.now }
     ensures { IfOk result (λ report. report ≡ text.report_text deed.now table.now) }
 {

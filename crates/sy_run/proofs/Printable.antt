@@ -16,7 +16,7 @@ use Rattle.sy_core.specs.declared.table.Mark.{Mark}
 use Rattle.sy_core.specs.Chronicle.{chronicle, moment_at, state_at}
 use Rattle.sy_core.specs.Moments.{Moment}
 use Rattle.sy_core.specs.Tables.{is_violated, is_void, marks, marks_at, states_of, table_before, table_after}
-use Rattle.sy_run.specs.Printing.{IsPrintable}
+use Rattle.sy_report.specs.Printing.{IsPrintable}
 use Rattle.sy_run.proofs.Marking.{one_moment}
 
 -- a point between two dates is one

@@ -15,7 +15,7 @@ use Rattle.sy_run.specs.Machine.Holding.{Holds}
 use Rattle.sy_run.specs.Output.{reply, output, is_refused}
 use Rattle.sy_run.specs.Outcomes.{end_of, monitored}
 use Rattle.sy_run.specs.Run.{Ends}
-use Rattle.sy_run.specs.RefusalText.{refusal_text}
+use Rattle.sy_report.specs.RefusalText.{refusal_text}
 use Rattle.sy_run.specs.Machine.Replies.{Answers, Refuses, BreaksOff, RepliesNext}
 use Rattle.sy_run.specs.Machine.Stream.{SoFar, StreamEnds, StopsWith, WritesReply, AfterLine}
 use Rattle.sy_run.specs.declared.stop.Stop.{Stop}

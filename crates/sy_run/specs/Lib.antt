@@ -4,9 +4,6 @@ pub mod FirstPath
 pub mod Machine
 pub mod Outcomes
 pub mod Output
-pub mod Printing
-pub mod RefusalText
-pub mod ReportText
 pub mod Run
 pub mod Texts
 pub mod World

@@ -6,7 +6,7 @@ use Rattle.sy_print.specs.CanonicalText.{canonical_text}
 use Rattle.sy_spec.specs.declared.contract.SpecTree.{SpecTree}
 use Rattle.sy_run.specs.Commands.{Command, Compile, Monitor, Unknown, usage_line}
 use Rattle.sy_run.specs.Output.{output, is_refused}
-use Rattle.sy_run.specs.RefusalText.{refusal_text}
+use Rattle.sy_report.specs.RefusalText.{refusal_text}
 use Rattle.sy_run.specs.Texts.{IsDeedIn, IsSpecIn}
 use Rattle.sy_run.specs.World.{World}
 use Rattle.sy_run.specs.declared.stop.Stop.{Stop}

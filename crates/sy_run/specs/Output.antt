@@ -12,8 +12,8 @@ use Rattle.sy_core.specs.Tables.{table_as_of}
 use Rattle.sy_run.specs.declared.first_path.Entry.{Entry}
 use Rattle.sy_run.specs.declared.first_path.Entry.TheVariants.{Blank, Paid, Report}
 use Rattle.sy_run.specs.FirstPath.{entry}
-use Rattle.sy_run.specs.ReportText.{report_text}
-use Rattle.sy_run.specs.RefusalText.{refusal_text, of_line}
+use Rattle.sy_report.specs.ReportText.{report_text}
+use Rattle.sy_report.specs.RefusalText.{refusal_text, of_line}
 
 -- what a line does: the bytes that it adds, whether it ends the output, and the happenings noted from then on
 pub record Reply : Type 0 where

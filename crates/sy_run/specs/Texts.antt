@@ -15,7 +15,7 @@ use Rattle.sy_spec.specs.Spelling.{SpellsSpec}
 use Rattle.sy_binding.specs.Spelling.{SpellsBinding}
 use Rattle.sy_reader.specs.Faults.{IsSyntaxFault}
 use Rattle.sy_run.specs.FirstPath.{due_date, start_date, deed}
-use Rattle.sy_run.specs.RefusalText.{whole}
+use Rattle.sy_report.specs.RefusalText.{whole}
 use Rattle.sy_run.specs.declared.stop.Stop.{Stop}
 use Rattle.sy_run.specs.declared.stop.Stop.TheVariants as stop
 

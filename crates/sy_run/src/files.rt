@@ -12,7 +12,6 @@ ghost use Rattle.sy_run.specs.Machine.Stopping.{IsToldAs, NoReadStop, is_read_st
 ghost use Rattle.sy_run.specs.Texts.{IsBindingIn, IsDeedIn, IsSpecIn, IsTree, bytes_in, date_or_refusal};
 
 use crate::first_path::{deed, due_date, start_date};
-use crate::refusal::whole;
 use crate::stop::Stop;
 use std::alloc::Global;
 use sy_base::{FaultName, FileKind, Point, Text};
@@ -20,6 +19,7 @@ use sy_binding::{BindTree, binding};
 use sy_core::Deed;
 use sy_lex::tokens;
 use sy_outside::{FileFault, Files, read_file};
+use sy_report::whole;
 use sy_spec::{SpecTree, spec};
 
 /// The bytes of a file.

@@ -9,8 +9,6 @@ mod files;
 mod first_path;
 mod log;
 mod monitor;
-mod refusal;
-mod report;
 mod status;
 mod stop;
 mod stream;

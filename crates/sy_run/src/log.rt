@@ -6,8 +6,8 @@ ghost use Rattle.sy_core.specs.declared.happening.Happening.{Happening};
 ghost use Rattle.sy_run.specs.FirstPath.{IsFirstDeed, IsDatedEntry};
 ghost use Rattle.sy_run.specs.Machine.Holding.{Holds};
 ghost use Rattle.sy_run.specs.Output as output;
-ghost use Rattle.sy_run.specs.RefusalText as refusals;
-ghost use Rattle.sy_run.specs.ReportText as reports;
+ghost use Rattle.sy_report.specs.RefusalText as refusals;
+ghost use Rattle.sy_report.specs.ReportText as reports;
 ghost use Rattle.sy_run.specs.Machine.Replies.{Replies, RepliesNext, GoesOn, stop_at};
 ghost use Rattle.sy_run.specs.Machine.Stopping.{is_read_stop};
 ghost use Rattle.sy_base.specs.declared.refusal.FileKind.TheVariants as kind;
@@ -15,14 +15,13 @@ ghost use Rattle.sy_core.specs.Tables as tables;
 
 use crate::entries::Entries;
 use crate::first_path::{Entry, read_line};
-use crate::refusal::of_line;
-use crate::report::report_text;
 use crate::stop::Stop;
 use crate::table::table_as_of;
 use std::alloc::Global;
 use sy_base::{FaultName, FileKind, Memory, Point, Text};
 use sy_core::Deed;
 use sy_outside::{Line, LineFault, LineReader, Source};
+use sy_report::{of_line, report_text};
 
 /// What was read of a log so far.
 #[derive(Drop)]

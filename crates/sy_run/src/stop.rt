@@ -5,11 +5,11 @@ ghost use Rattle.sy_run.specs.Machine.Stopping.{stop_of};
 ghost use Rattle.sy_run.specs.declared.stop.Stop.TheVariants as stop;
 ghost use Rattle.sy_run.specs.declared.stop.Stop.TheVariants.{Memory as OutOfMemory};
 
-use crate::refusal::refusal_text;
 use crate::status::Status;
 use std::alloc::Global;
 use sy_base::{Memory, Refusal, Refused};
 use sy_outside::{Sink, write_all};
+use sy_report::refusal_text;
 
 /// Why a run goes no further.
 #[derive(Debug, Drop)]

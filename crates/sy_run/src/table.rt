@@ -5,7 +5,7 @@ ghost use Rattle.sy_core.specs.declared.state.StateOf.TheVariants as state;
 ghost use Rattle.sy_core.specs.Tables as tables;
 ghost use Rattle.sy_run.specs.FirstPath.{IsFirstDeed};
 ghost use Rattle.sy_run.specs.Machine.Holding.{Holds};
-ghost use Rattle.sy_run.specs.Printing.{IsPrintable};
+ghost use Rattle.sy_report.specs.Printing.{IsPrintable};
 
 use crate::course::Course;
 use crate::entries::Entries;

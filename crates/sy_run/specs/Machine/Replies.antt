@@ -11,7 +11,7 @@ use Rattle.sy_core.specs.declared.deed.Deed.{Deed}
 use Rattle.sy_core.specs.declared.happening.Happening.{Happening}
 use Rattle.sy_run.specs.Machine.Holding.{Holds}
 use Rattle.sy_run.specs.Output.{Reply, reply}
-use Rattle.sy_run.specs.RefusalText.{refusal_text, of_line}
+use Rattle.sy_report.specs.RefusalText.{refusal_text, of_line}
 use Rattle.sy_run.specs.declared.stop.Stop.{Stop}
 use Rattle.sy_run.specs.declared.stop.Stop.TheVariants.{ReadFault, Refused, Memory}
 

@@ -13,7 +13,7 @@ use Rattle.sy_run.specs.Machine.Holding.{Holds}
 use Rattle.sy_run.specs.Output.{output, is_refused}
 use Rattle.sy_run.specs.Outcomes.{monitored, asked_by_lines}
 use Rattle.sy_run.specs.Run.{Ends}
-use Rattle.sy_run.specs.RefusalText.{refusal_text}
+use Rattle.sy_report.specs.RefusalText.{refusal_text}
 use Rattle.sy_run.specs.declared.stop.Stop.{Stop}
 use Rattle.sy_run.specs.declared.stop.Stop.TheVariants as stop
 use Rattle.sy_run.specs.declared.status.Status.{Status}

@@ -1,7 +1,7 @@
 use Rattle.std.proofs.Common.{◌≡◌, ◌++◌, drop}
 use Rattle.std.specs.List.{flat_map}
-use Rattle.sy_run.specs.ReportText as text
-use Rattle.sy_run.proofs.report.add_marks.Given as goal
+use Rattle.sy_report.specs.ReportText as text
+use Rattle.sy_report.proofs.report.add_marks.Given as goal
 
 -- what was added and what the rest gives are all the lines
 abbrev pub invariant-marks : goal.invariant-marks

@@ -1,6 +1,6 @@
 use Rattle.std.proofs.Common.{◌≡◌, ◌++◌, ◌+◌, drop}
-use Rattle.sy_run.specs.ReportText as text
-use Rattle.sy_run.proofs.report.add_posts.Given as goal
+use Rattle.sy_report.specs.ReportText as text
+use Rattle.sy_report.proofs.report.add_posts.Given as goal
 
 -- what was added and what the rest gives are all the lines
 abbrev pub invariant-posts : goal.invariant-posts

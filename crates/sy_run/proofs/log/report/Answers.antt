@@ -1,7 +1,7 @@
 use Rattle.std.proofs.Common.{◌≡◌, IfOk, subst, to_z, of_z, w64}
 use Rattle.std.proofs.lemmas.Int.{to_z-of_z}
 use Rattle.sy_core.specs.declared.table.Table.{Table}
-use Rattle.sy_run.specs.ReportText as reports
+use Rattle.sy_report.specs.ReportText as reports
 use Rattle.sy_run.proofs.log.report.Goals as goal
 
 pub returns : goal.returns

@@ -7,7 +7,7 @@ use Rattle.sy_core.specs.declared.happening.Happening.{Happening}
 use Rattle.sy_core.specs.Tables.{table_before, table_after, table_as_of}
 use Rattle.sy_axioms.proofs.Dates.{dated_is_passed}
 use Rattle.sy_run.specs.Output.{payment}
-use Rattle.sy_run.specs.Printing.{IsPrintable}
+use Rattle.sy_report.specs.Printing.{IsPrintable}
 use Rattle.sy_run.proofs.AllNoted.{all_hold}
 use Rattle.sy_run.proofs.Answering.{if_ok}
 use Rattle.sy_run.proofs.FirstDeeds.{first_is_sound}
