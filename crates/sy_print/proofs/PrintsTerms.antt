@@ -1,8 +1,6 @@
 -- The rules of terms, events, situations and dates print.
 use Rattle.std.proofs.Common.{◌≡◌, inl, inr, ℕ, List, [], ◌∷◌, ◌++◌, map, refl, ap, sym, ◌∙◌, append_assoc, subst, if◌then◌else◌, true, false, append-nil}
 use Rattle.sy_base.specs.declared.refusal.Place.{Place}
-use Rattle.sy_base.specs.declared.time.Measure.{Measure}
-use Rattle.sy_base.specs.declared.time.Measure.TheVariants as M
 use Rattle.sy_words.specs.declared.comparison.Cmp.{Cmp}
 use Rattle.sy_words.specs.declared.comparison.Cmp.TheVariants as C
 use Rattle.sy_words.specs.declared.kind.Kind.{Kind}
@@ -18,13 +16,14 @@ use Rattle.sy_tree.specs.declared.term.SingleTree.TheVariants as Single
 use Rattle.sy_tree.specs.declared.term.PathTree.TheVariants as Path
 use Rattle.sy_tree.specs.declared.date.MomentTree.TheVariants as Moment
 use Rattle.sy_tree.specs.declared.date.CountTree.TheVariants as Count
+use Rattle.sy_tree.specs.declared.date.MeasureTree.{MeasureTree}
 use Rattle.sy_tree.specs.declared.proposition.GuardTree.{GuardTree}
 use Rattle.sy_tree.specs.declared.proposition.CmpTree.{CmpTree}
 use Rattle.sy_tree.specs.declared.proposition.EventTree.TheVariants as Event
-use Rattle.sy_lex.specs.Keywords.{keyword_text}
-use Rattle.sy_lex.specs.Lexemes.{Lexeme}
+use Rattle.sy_lex.specs.Keywords.{keyword_text, plural_keyword}
+use Rattle.sy_lex.specs.Lexemes.{Lexeme, written}
 use Rattle.sy_print.proofs.PrintedWords.{AreTokens}
-use Rattle.sy_reader.specs.Grammar.{lexeme, spelled, ◌>>=◌, ◌or◌, sign, listed, between, token}
+use Rattle.sy_reader.specs.Grammar.{spelled, ◌>>=◌, ◌or◌, sign, listed, between, token}
 use Rattle.sy_tree.specs.Terms as G
 use Rattle.sy_print.specs.CanonicalText as T
 use Rattle.sy_print.specs.Equality as E
@@ -132,33 +131,29 @@ situation_ok =
     (all_parts (λ _. refl)
     (λ _ _ e. λ i. record { place = E.here; target = (e i).0.0.1; equal = (e i).0.1; state = (e i).1 })))))
 
--- either word of a measure, of which the second is printed
-plural_ok : (one several : Keyword)
-    → Prints (lexeme (S.Reserved one) or lexeme (S.Reserved several)) (λ _. T.keyword several)
-    (λ _. record { kind = S.Word; text = []; place = E.here })
+-- either word of a measure, of which the plural is printed
+one_word : (from : List Lexeme) (x : MeasureTree) (rest : List Lexeme) → G.measure from x rest
+    → (l : Lexeme) × (from ≡ l ∷ rest)
+one_word from x rest (inl (l, mid, d, e)) = (l, d.0 ∙ ap (λ ls. l ∷ ls) e.1)
+one_word from x rest (inr (l, mid, d, e)) = (l, d.0 ∙ ap (λ ls. l ∷ ls) e.1)
+
+pub measure_ok : Prints G.measure (λ m. T.keyword (plural_keyword m.measure)) E.plain_measure
 unfolding T.keyword T.word
-plural_ok one several = record {
-  at = λ from l rest tokens d.
-      let is : from ≡ l ∷ rest = elim d [ inl h ↦ h.0 | inr h ↦ h.0 ] in
-      let all : AreTokens (l ∷ rest) = subst AreTokens is tokens in (
+measure_ok = record {
+  at = λ from x rest tokens d.
+      let plural = plural_keyword x.measure in
+      let all : AreTokens ((one_word from x rest d).0 ∷ rest) = subst AreTokens (one_word from x rest d).1 tokens in (
         record {
-          words = record { kind = S.Reserved several; text = keyword_text several; behind = 32 } ∷ [];
+          words = record { kind = S.Reserved plural; text = keyword_text plural; behind = 32 } ∷ [];
           are = record { words = (refl, inl refl, tt); bytes = refl };
-          says = record { tree = λ from rest r. (r.0, inr (r.2 ∙ ap (λ ls. r.0 ∷ ls) r.5, r.3), refl) };
+          says = record {
+            tree = λ from rest r.
+                (record { measure = x.measure; word = written r.0 }, inr (r.0, r.1, (r.2, r.3), (refl, r.5)), refl);
+          };
         },
         all.1,
       );
 }
-
-measured_ok : (one several : Keyword) (m : Measure) → several ≡ T.measure_word m
-    → Prints (G.measured one several m) (λ m. T.keyword (T.measure_word m.measure)) E.plain_measure
-measured_ok one several m e = of_one (plural_ok one several) (λ _. ap T.keyword e) (λ _ _ _. refl)
-
-pub measure_ok : Prints G.measure (λ m. T.keyword (T.measure_word m.measure)) E.plain_measure
-measure_ok =
-    or_ok (or_ok (or_ok
-    (measured_ok K.Minute K.Minutes M.Minutes refl) (measured_ok K.Hour K.Hours M.Hours refl))
-    (measured_ok K.Day K.Days M.Days refl)) (measured_ok K.Week K.Weeks M.Weeks refl)
 
 count_ok : Prints ((token S.Number >>= λ x. spelled (Count.Number x)) or (G.path >>= λ x. spelled (Count.Path x)))
     T.count_text E.plain_count

@@ -1,8 +1,6 @@
 -- The canonical text of a specification: its tokens, in order, each with a blank or a newline behind it.
 use Rattle.std.specs.Prelude.{ℕ, Bool, true, false, List, [], ◌∷◌, ◌++◌, codes, ◌==◌, if◌then◌else◌, Option, Some, None}
 use Rattle.std.specs.List.{flat_map}
-use Rattle.sy_base.specs.declared.time.Measure.{Measure}
-use Rattle.sy_base.specs.declared.time.Measure.TheVariants as M
 use Rattle.sy_base.specs.declared.refusal.Place.{Place}
 use Rattle.sy_words.specs.declared.comparison.Cmp.{Cmp}
 use Rattle.sy_words.specs.declared.comparison.Cmp.TheVariants as C
@@ -10,7 +8,7 @@ use Rattle.sy_lex.specs.declared.keyword.Keyword.{Keyword}
 use Rattle.sy_lex.specs.declared.keyword.Keyword.TheVariants as K
 use Rattle.sy_lex.specs.declared.sign.Sign.{Sign}
 use Rattle.sy_lex.specs.declared.sign.Sign.TheVariants.{Colon, Semicolon, Comma, Dot, Open, Close, OpenBracket, CloseBracket, Assign, Arrow, Equal, NotEqual, Less, AtMost, Greater, AtLeast, Plus, Minus, Times}
-use Rattle.sy_lex.specs.Keywords.{keyword_text}
+use Rattle.sy_lex.specs.Keywords.{keyword_text, plural_keyword}
 use Rattle.sy_lex.specs.Signs.{sign_text}
 use Rattle.sy_lex.specs.declared.written.Written.{Written}
 use Rattle.sy_tree.specs.declared.term.RhsTree.{RhsTree}
@@ -165,19 +163,13 @@ unfoldable pub situation_text : SituationTree → List ℕ
 situation_text s =
     keyword K.State ++ in_brackets (target_text s.target) ++ sign (if s.equal then Equal else NotEqual) ++ token s.state
 
--- the plural
-abbrev pub measure_word : Measure → Keyword
-measure_word M.Minutes = K.Minutes
-measure_word M.Hours = K.Hours
-measure_word M.Days = K.Days
-measure_word M.Weeks = K.Weeks
-
 abbrev pub count_text : CountTree → List ℕ
 count_text (Count.Number n) = number n
 count_text (Count.Path p) = path_text p
 
+-- a measure is printed in the plural
 abbrev pub duration_text : DurationTree → List ℕ
-duration_text d = count_text d.count ++ keyword (measure_word d.measure.measure)
+duration_text d = count_text d.count ++ keyword (plural_keyword d.measure.measure)
 
 abbrev pub moment_text : MomentTree → List ℕ
 moment_text (Moment.Fixed t) = token t

@@ -1,11 +1,16 @@
 -- The rules of events, situations and dates and what reads them agree.
-use Rattle.std.proofs.Common.{◌≡◌, ◌⊎◌, inl, inr, ◌<◌, true, false, List, [], ◌∷◌, Some, refl, ap, ◌∙◌, arith}
+use Rattle.std.proofs.Common.{◌≡◌, ◌⊎◌, inl, inr, ◌<◌, Bool, true, false, List, [], ◌∷◌, Option, Some, None, IfSome, refl, ap, subst, ◌∙◌, arith, rules}
+use Rattle.std.proofs.lemmas.Bool.{cond_both, or_cases}
+use Rattle.std.specs.List.{find}
+use denote.Enum.Bare.{sameb, same_true}
+use Rattle.sy_base.specs.Measures.{measures}
 use Rattle.sy_base.specs.declared.time.Measure.{Measure}
 use Rattle.sy_base.specs.declared.time.Measure.TheVariants as M
 use Rattle.sy_words.specs.declared.comparison.Cmp.{Cmp}
 use Rattle.sy_words.specs.declared.comparison.Cmp.TheVariants as C
 use Rattle.sy_words.specs.declared.kind.Kind.{Kind}
 use Rattle.sy_words.specs.declared.kind.Kind.TheVariants as E
+use Rattle.sy_lex.specs.contracts.keyword.Keyword.{the_type as the_keywords}
 use Rattle.sy_lex.specs.declared.keyword.Keyword.{Keyword}
 use Rattle.sy_lex.specs.declared.keyword.Keyword.TheVariants as K
 use Rattle.sy_lex.specs.declared.sign.Sign.{Sign}
@@ -21,14 +26,15 @@ use Rattle.sy_tree.specs.declared.proposition.EventTree.{EventTree}
 use Rattle.sy_tree.specs.declared.proposition.EventTree.TheVariants as Event
 use Rattle.sy_tree.specs.declared.proposition.GuardTree.{GuardTree}
 use Rattle.sy_lex.specs.declared.written.Written.{Written}
-use Rattle.sy_lex.specs.Lexemes.{Lexeme, written}
+use Rattle.sy_lex.specs.Keywords.{singular_keyword, plural_keyword}
+use Rattle.sy_lex.specs.Lexemes.{Lexeme}
 use Rattle.sy_reader.specs.Grammar as grammar
 use Rattle.sy_reader.specs.Grammar.{Rule, spelled, token, sign, keyword, between, listed}
-use Rattle.sy_tree.specs.Terms.{path, compares, cmp, target, guard, kind_word, event, situation, measured, measure, duration, moment, date}
+use Rattle.sy_tree.specs.Terms.{path, compares, cmp, target, guard, kind_word, event, situation, measure, duration, moment, date}
 use Rattle.sy_reader.specs.Machine.Reading as reader
 use Rattle.sy_reader.specs.Machine.Reading.{Reading, give, fail, sign_at, by_next, between_at, listed_at}
-use Rattle.sy_tree.specs.Machine.ReadingTerms.{cmp_by, cmp_at, target_at, guard_at, guards_at, declared_at, kind_of_token, internal_or_declared, event_at, equality_at, situation_at, measured_at, measure_by, measure_at, count_at, duration_at, moment_by, moment_at, date_at}
-use Rattle.sy_reader.proofs.Agree.{Agrees, Any, Begins, spelled_agrees, weaker_agrees, anywhere, same_agrees, reads_agrees, swap_agrees, then_agrees, then_any, node_agrees, token_agrees, keyword_agrees, sign_agrees, behind_agrees, before_agrees, before_any, begins_then, begins_or, begins_as, token_begins, lexeme_begins, keyword_begins, sign_begins}
+use Rattle.sy_tree.specs.Machine.ReadingTerms.{cmp_by, cmp_at, target_at, guard_at, guards_at, declared_at, kind_of_token, internal_or_declared, event_at, equality_at, situation_at, names_measure, measure_of_word, measured_at, measure_by, measure_at, count_at, duration_at, moment_by, moment_at, date_at}
+use Rattle.sy_reader.proofs.Agree.{Agrees, Any, Begins, spelled_agrees, weaker_agrees, anywhere, same_agrees, reads_agrees, swap_agrees, then_agrees, then_any, node_agrees, token_agrees, keyword_agrees, sign_agrees, behind_agrees, before_agrees, before_any, begins_then, begins_or, begins_as, token_begins, keyword_begins, sign_begins}
 use Rattle.sy_reader.proofs.AgreeMany.{Ends, Without, rank, ends_at, ends_next, ends_without, loop_behind, first_and_few, listed_agrees}
 use Rattle.sy_reader.proofs.AgreeChoices.{Branches, branch, case, case_at, tagged, same_branches, ◌or◌, by_next_agrees, token_case, optional_agrees, either_agrees}
 use Rattle.sy_tree.proofs.AgreeTerms.{path_agrees, path_begins, rhs_agrees}
@@ -156,52 +162,105 @@ pub situation_agrees : Agrees situation situation_at Any
 unfolding situation_at
 situation_agrees = then_any (keyword_agrees K.State) λ place. then_any (behind_agrees Open (before_any Close target_agrees)) λ target. then_any equality_agrees λ equal. node_agrees (λ state. record { place = place; target = target; equal = equal; state = state }) (token_agrees S.Word)
 
--- a measure by its two words
-module _ (one several : Keyword) (m : Measure) (by_one : measure_by (S.Reserved one) ≡ measured_at (Some m) one) (by_several : measure_by (S.Reserved several) ≡ measured_at (Some m) several) where
-  abbrev measure_of : Written → MeasureTree
-  measure_of word = record { measure = m; word = word }
+-- ---- a measure by one of its two words
 
-  abbrev worded : Keyword → Rule MeasureTree
-  worded word = grammar.◌>>=◌ (token (S.Reserved word)) λ x. spelled (measure_of x)
+abbrev measure_of : Measure → Written → MeasureTree
+measure_of measure word = record { measure = measure; word = word }
 
-  measured_to : (from : List Lexeme) (x : MeasureTree) (rest : List Lexeme) → grammar.◌or◌ (worded one) (worded several) from x rest → measured one several m from x rest
-  measured_to from x rest (inl (w, mid, (l, mid', d, e), e')) = (l, mid', inl d, (ap measure_of e.0 ∙ e'.0, e.1 ∙ e'.1))
-  measured_to from x rest (inr (w, mid, (l, mid', d, e), e')) = (l, mid', inr d, (ap measure_of e.0 ∙ e'.0, e.1 ∙ e'.1))
+-- some measure, by the word that it has here
+abbrev named_by : (Measure → Keyword) → Rule MeasureTree
+named_by word from x rest =
+    (m : Measure) × grammar.◌>>=◌ (token (S.Reserved (word m))) (λ w. spelled (measure_of m w)) from x rest
 
-  measured_back : (from : List Lexeme) (x : MeasureTree) (rest : List Lexeme) → measured one several m from x rest → grammar.◌or◌ (worded one) (worded several) from x rest
-  measured_back from x rest (l, mid, inl d, e) = inl (written l, mid, (l, mid, d, (refl, refl)), e)
-  measured_back from x rest (l, mid, inr d, e) = inr (written l, mid, (l, mid, d, (refl, refl)), e)
+named_to : (word : Measure → Keyword) (from : List Lexeme) (x : MeasureTree) (rest : List Lexeme)
+    → named_by word from x rest → token (S.Reserved (word x.measure)) from x.word rest
+named_to word from x rest (m, (w, mid, d, e)) =
+    subst (λ (y : MeasureTree). token (S.Reserved (word y.measure)) from y.word rest) e.0
+    (subst (token (S.Reserved (word m)) from w) e.1 d)
 
-  abbrev measured_branches : Branches (measured one several m) measure_by Any
-  measured_branches = same_branches
-      (branch (begins_then (token_begins (S.Reserved one))) (λ s e. ap measure_by e ∙ by_one) (token_case (S.Reserved one) measure_of)
-      or branch (begins_then (token_begins (S.Reserved several))) (λ s e. ap measure_by e ∙ by_several) (token_case (S.Reserved several) measure_of))
-      measured_to measured_back
+named_back : (word : Measure → Keyword) (from : List Lexeme) (x : MeasureTree) (rest : List Lexeme)
+    → token (S.Reserved (word x.measure)) from x.word rest → named_by word from x rest
+named_back word from x rest d = (x.measure, (x.word, rest, d, (refl, refl)))
+
+measure_to : (from : List Lexeme) (x : MeasureTree) (rest : List Lexeme)
+    → grammar.◌or◌ (named_by singular_keyword) (named_by plural_keyword) from x rest → measure from x rest
+measure_to from x rest (inl d) = inl (named_to singular_keyword from x rest d)
+measure_to from x rest (inr d) = inr (named_to plural_keyword from x rest d)
+
+measure_back : (from : List Lexeme) (x : MeasureTree) (rest : List Lexeme)
+    → measure from x rest → grammar.◌or◌ (named_by singular_keyword) (named_by plural_keyword) from x rest
+measure_back from x rest (inl d) = inl (named_back singular_keyword from x rest d)
+measure_back from x rest (inr d) = inr (named_back plural_keyword from x rest d)
+
+-- each of them is read by either word: the second equation is checked at each of the other measures
+singular_by : (m : Measure) → measure_by (S.Reserved (singular_keyword m)) ≡ measured_at (Some m) (singular_keyword m)
+unfolding measure_of_word
+singular_by M.Minutes = refl
+singular_by m = refl
+
+plural_by : (m : Measure) → measure_by (S.Reserved (plural_keyword m)) ≡ measured_at (Some m) (plural_keyword m)
+unfolding measure_of_word
+plural_by M.Minutes = refl
+plural_by m = refl
+
+abbrev named_branches : (word : Measure → Keyword)
+    → ((m : Measure) → measure_by (S.Reserved (word m)) ≡ measured_at (Some m) (word m))
+    → Branches (named_by word) measure_by Any
+named_branches word by =
+    tagged (λ m. measured_at (Some m) (word m)) (λ m. S.Reserved (word m)) (λ m. begins_then (token_begins (S.Reserved (word m)))) by
+    (λ m. token_case (S.Reserved (word m)) (measure_of m))
 
 abbrev measure_branches : Branches measure measure_by Any
-measure_branches = measured_branches K.Minute K.Minutes M.Minutes refl refl or measured_branches K.Hour K.Hours M.Hours refl refl or measured_branches K.Day K.Days M.Days refl refl or measured_branches K.Week K.Weeks M.Weeks refl refl
+measure_branches =
+    same_branches (named_branches singular_keyword singular_by or named_branches plural_keyword plural_by) measure_to measure_back
+
+-- what is found passes the test
+found : {X : Type 0} (test : X → Bool) (xs : List X) → IfSome (find test xs) (λ x. test x ≡ true)
+found test [] = tt
+found test (x ∷ xs) =
+    cond_both (test x) (Some x) (find test xs) (λ o. IfSome o (λ y. test y ≡ true)) (λ passed. passed) (λ _. found test xs)
+
+is_named : (word : Keyword) (m : Measure) → names_measure word m ≡ true → (word ≡ singular_keyword m) ⊎ (word ≡ plural_keyword m)
+is_named word m names =
+    elim (or_cases (sameb the_keywords word (singular_keyword m)) (sameb the_keywords word (plural_keyword m)) names) [
+      | inl one ↦ inl (same_true the_keywords (search rules) word (singular_keyword m) one)
+      | inr several ↦ inr (same_true the_keywords (search rules) word (plural_keyword m) several)
+    ]
 
 measure_covers : (s : TokenKind) → measure_branches.Here s ⊎ (measure_by s ≡ fail)
-measure_covers (S.Reserved K.Minute) = inl (inl (inl (inl (inl refl))))
-measure_covers (S.Reserved K.Minutes) = inl (inl (inl (inl (inr refl))))
-measure_covers (S.Reserved K.Hour) = inl (inl (inl (inr (inl refl))))
-measure_covers (S.Reserved K.Hours) = inl (inl (inl (inr (inr refl))))
-measure_covers (S.Reserved K.Day) = inl (inl (inr (inl refl)))
-measure_covers (S.Reserved K.Days) = inl (inl (inr (inr refl)))
-measure_covers (S.Reserved K.Week) = inl (inr (inl refl))
-measure_covers (S.Reserved K.Weeks) = inl (inr (inr refl))
+unfolding measure_of_word
+measure_covers (S.Reserved word) = covers (measure_of_word word) refl (found (names_measure word) measures)
+  where
+    by_its_word : (m : Measure) → measure_of_word word ≡ Some m → (word ≡ singular_keyword m) ⊎ (word ≡ plural_keyword m)
+        → measure_branches.Here (S.Reserved word)
+    by_its_word m e (inl same) = inl (m, ap (λ n. measured_at n word) e ∙ ap (measured_at (Some m)) same)
+    by_its_word m e (inr same) = inr (m, ap (λ n. measured_at n word) e ∙ ap (measured_at (Some m)) same)
+
+    covers : (named : Option Measure) → measure_of_word word ≡ named → IfSome named (λ m. names_measure word m ≡ true)
+        → measure_branches.Here (S.Reserved word) ⊎ (measure_by (S.Reserved word) ≡ fail)
+    covers None e names = inr (ap (λ n. measured_at n word) e)
+    covers (Some m) e names = inl (by_its_word m e (is_named word m names))
 measure_covers s = inr refl
 
 measure_agrees : Agrees measure measure_at Any
 unfolding measure_at
 measure_agrees = by_next_agrees measure_branches measure_covers
 
-one_or_other : (one several : Keyword) → 1 < rank (S.Reserved one) → 1 < rank (S.Reserved several) → (m : Measure) → Begins (measured one several m) (λ s. 1 < rank s)
-one_or_other one several above above' m = begins_then (begins_or (begins_as (lexeme_begins (S.Reserved one)) above) (begins_as (lexeme_begins (S.Reserved several)) above'))
+singular_rank : (m : Measure) → 1 < rank (S.Reserved (singular_keyword m))
+singular_rank M.Minutes = omega arith
+singular_rank m = omega arith
+
+plural_rank : (m : Measure) → 1 < rank (S.Reserved (plural_keyword m))
+plural_rank M.Minutes = omega arith
+plural_rank m = omega arith
 
 measure_begins : Begins measure (λ s. 1 < rank s)
-measure_begins = begins_or (begins_or (begins_or (one_or_other K.Minute K.Minutes (omega arith) (omega arith) M.Minutes) (one_or_other K.Hour K.Hours (omega arith) (omega arith) M.Hours))
-    (one_or_other K.Day K.Days (omega arith) (omega arith) M.Days)) (one_or_other K.Week K.Weeks (omega arith) (omega arith) M.Weeks)
+measure_begins = record {
+  next = λ from x rest d.
+      (begins_or (begins_as (token_begins (S.Reserved (singular_keyword x.measure))) (singular_rank x.measure))
+      (begins_as (token_begins (S.Reserved (plural_keyword x.measure))) (plural_rank x.measure))).next
+      from x.word rest d;
+}
 
 count_agrees : Agrees (grammar.◌or◌ (grammar.◌>>=◌ (token S.Number) λ x. spelled (Count.Number x)) (grammar.◌>>=◌ path λ x. spelled (Count.Path x))) count_at (Ends 1)
 unfolding count_at

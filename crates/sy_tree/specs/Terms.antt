@@ -2,7 +2,6 @@
 use Rattle.std.specs.Prelude.{true, false, []}
 use Rattle.sy_base.specs.declared.refusal.Place.{Place}
 use Rattle.sy_base.specs.declared.time.Measure.{Measure}
-use Rattle.sy_base.specs.declared.time.Measure.TheVariants as M
 use Rattle.sy_words.specs.declared.comparison.Cmp.{Cmp}
 use Rattle.sy_words.specs.declared.comparison.Cmp.TheVariants as C
 use Rattle.sy_words.specs.declared.kind.Kind.{Kind}
@@ -35,8 +34,9 @@ use Rattle.sy_tree.specs.declared.proposition.EventTree.{EventTree}
 use Rattle.sy_tree.specs.declared.proposition.EventTree.TheVariants as Event
 use Rattle.sy_tree.specs.declared.proposition.GuardTree.{GuardTree}
 use Rattle.sy_tree.specs.declared.proposition.SituationTree.{SituationTree}
-use Rattle.sy_lex.specs.Lexemes.{written}
-use Rattle.sy_reader.specs.Grammar.{Rule, spelled, ◌>>=◌, ◌or◌, lexeme, token, keyword, sign, many, up_to, behind, between, listed}
+use Rattle.sy_lex.specs.declared.written.Written.{Written}
+use Rattle.sy_lex.specs.Keywords.{singular_keyword, plural_keyword}
+use Rattle.sy_reader.specs.Grammar.{Rule, spelled, ◌>>=◌, ◌or◌, token, keyword, sign, many, up_to, behind, between, listed}
 
 -- path = NAME [ "." NAME [ "." NAME ] ]
 abbrev pub path : Rule PathTree
@@ -159,16 +159,13 @@ situation = do
   state ← token S.Word
   spelled (record { place = place; target = target; equal = equal; state = state })
 
--- measure = "Minute" | "Minutes" | "Hour" | "Hours" | "Day" | "Days" | "Week" | "Weeks"
-abbrev pub measured : Keyword → Keyword → Measure → Rule MeasureTree
-measured one several measure = do
-  l ← lexeme (S.Reserved one) or lexeme (S.Reserved several)
-  spelled (record { measure = measure; word = written l })
+-- the word of a measure, in the singular or the plural
+abbrev pub measured : Measure → Rule Written
+measured measure = token (S.Reserved (singular_keyword measure)) or token (S.Reserved (plural_keyword measure))
 
+-- measure = the word of any measure
 abbrev pub measure : Rule MeasureTree
-measure =
-    measured K.Minute K.Minutes M.Minutes or measured K.Hour K.Hours M.Hours
-    or measured K.Day K.Days M.Days or measured K.Week K.Weeks M.Weeks
+measure from x rest = measured x.measure from x.word rest
 
 -- duration = ( NUMBER | path ) measure
 abbrev pub duration : Rule DurationTree

@@ -1,4 +1,5 @@
 ghost use Rattle.std.specs.Prelude.{◌≡◌, ◌++◌, OnOk};
+ghost use Rattle.sy_lex.specs.Keywords.{plural_keyword};
 ghost use Rattle.sy_print.specs.CanonicalText as canonical;
 ghost use Rattle.sy_tree.specs.Terms as grammar;
 ghost use Rattle.sy_print.specs.CanonicalText.{count_text, date_text, duration_text, event_text, factor_text, guard_text, guards_text, in_brackets, moment_text, path_text, rhs_text, single_text, situation_text, sum_text, target_text, term_text};
@@ -205,9 +206,9 @@ impl Printed for SituationTree {
     }
 }
 
-/// The plural of a measure's word.
-fn measure_word(measure: Measure) -> Keyword
-    ensures { result ≡ canonical.measure_word measure }
+/// The reserved word of a measure in the plural.
+fn plural_keyword(measure: Measure) -> Keyword
+    ensures { result ≡ plural_keyword measure }
 {
     match measure {
         Measure::Minutes => Keyword::Minutes,
@@ -233,7 +234,7 @@ impl Printed for DurationTree {
 
     fn put(&self, out: &mut Writer) -> Result<(), Memory> {
         self.count.put(out)?;
-        out.keyword(measure_word(self.measure.measure))
+        out.keyword(plural_keyword(self.measure.measure))
     }
 }
 

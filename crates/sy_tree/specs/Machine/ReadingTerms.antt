@@ -1,11 +1,14 @@
 -- How terms, events, situations and dates are read.
-use Rattle.std.specs.Prelude.{Bool, true, false, if◌then◌else◌, List, [], ◌∷◌, Option, Some, None, Ok}
+use Rattle.std.specs.Prelude.{Bool, true, false, ◌||◌, if◌then◌else◌, List, [], ◌∷◌, Option, Some, None, Ok}
+use Rattle.std.specs.List.{find}
+use denote.Enum.Bare.{sameb}
 use Rattle.sy_base.specs.declared.time.Measure.{Measure}
-use Rattle.sy_base.specs.declared.time.Measure.TheVariants as M
+use Rattle.sy_base.specs.Measures.{measures}
 use Rattle.sy_words.specs.declared.comparison.Cmp.{Cmp}
 use Rattle.sy_words.specs.declared.comparison.Cmp.TheVariants as C
 use Rattle.sy_words.specs.declared.kind.Kind.{Kind}
 use Rattle.sy_words.specs.declared.kind.Kind.TheVariants as E
+use Rattle.sy_lex.specs.contracts.keyword.Keyword.{the_type as the_keywords}
 use Rattle.sy_lex.specs.declared.keyword.Keyword.{Keyword}
 use Rattle.sy_lex.specs.declared.keyword.Keyword.TheVariants as K
 use Rattle.sy_lex.specs.declared.sign.Sign.{Sign}
@@ -38,6 +41,7 @@ use Rattle.sy_tree.specs.declared.proposition.EventTree.{EventTree}
 use Rattle.sy_tree.specs.declared.proposition.EventTree.TheVariants as Event
 use Rattle.sy_tree.specs.declared.proposition.GuardTree.{GuardTree}
 use Rattle.sy_tree.specs.declared.proposition.SituationTree.{SituationTree}
+use Rattle.sy_lex.specs.Keywords.{singular_keyword, plural_keyword}
 use Rattle.sy_lex.specs.Lexemes.{Lexeme}
 use Rattle.sy_reader.specs.Machine.Reading.{Reading, ◌>>=◌, give, fail, begins_with, token_at, keyword_at, sign_at, by_next, many_at, behind_at, between_at, each_behind, all_behind, listed_at}
 
@@ -208,16 +212,14 @@ situation_at = do
   state ← token_at S.Word
   give (record { place = place; target = target; equal = equal; state = state })
 
-abbrev pub measure_of_word : Keyword → Option Measure
-measure_of_word K.Minute = Some M.Minutes
-measure_of_word K.Minutes = Some M.Minutes
-measure_of_word K.Hour = Some M.Hours
-measure_of_word K.Hours = Some M.Hours
-measure_of_word K.Day = Some M.Days
-measure_of_word K.Days = Some M.Days
-measure_of_word K.Week = Some M.Weeks
-measure_of_word K.Weeks = Some M.Weeks
-measure_of_word word = None
+-- a reserved word names a measure, in the singular or the plural
+abbrev pub names_measure : Keyword → Measure → Bool
+names_measure word measure =
+    sameb the_keywords word (singular_keyword measure) || sameb the_keywords word (plural_keyword measure)
+
+-- the measure that a reserved word names
+unfoldable pub measure_of_word : Keyword → Option Measure
+measure_of_word word = find (names_measure word) measures
 
 abbrev pub measured_at : Option Measure → Keyword → Reading MeasureTree
 measured_at (Some measure) word = token_at (S.Reserved word) >>= λ x. give (record { measure = measure; word = x })

@@ -12,6 +12,7 @@ use sy_reader::{Fault, Production, Reader, between, each_behind};
 const DURATION_LIMIT: usize = 8;
 
 /// The measure that a reserved word names.
+#[tactic(auto, unfolding(crate::specs::Machine::ReadingTerms::measure_of_word))]
 fn measure(keyword: Keyword) -> Option<Measure>
     ensures { result ≡ reading.measure_of_word keyword }
 {
