@@ -1,0 +1,4 @@
+pub mod EachValue
+pub mod Naming
+pub mod Chain
+pub mod ChainTurn

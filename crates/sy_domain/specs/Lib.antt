@@ -1,0 +1,7 @@
+pub mod Attributes
+pub mod Chains
+pub mod Checks
+pub mod Failures
+pub mod Names
+pub mod Ontologies
+pub mod TypeNames

@@ -1,0 +1,115 @@
+ghost use Rattle.std.specs.Prelude.{◌≡◌, ◌++◌, length, OnOk, IfOk};
+ghost use Rattle.std.specs.List.{flat_map, enumerate_from, list_any};
+ghost use Rattle.sy_domain.specs.Attributes as attributes;
+ghost use Rattle.sy_domain.specs.Attributes.{clash, clashes, clashing, given_twice};
+
+use crate::chains::{all_bases, chain_above};
+use crate::failure::fail_unless;
+use crate::names::repeat_into;
+use crate::{Failure, Names};
+use std::alloc::Global;
+use sy_base::{List, Memory, Text};
+use sy_spec::{AttrTree, DeclTree, SpecTree, TypeTree};
+
+fn own(tree: &TypeTree) -> &[AttrTree]
+    ensures { result.now ≡ attributes.own tree.now }
+{
+    match tree {
+        TypeTree::Enumeration(_, _) => &[],
+        TypeTree::Derived(_, _, attributes) => attributes.items(),
+    }
+}
+
+pub(crate) fn own_at(types: &[TypeTree], number: usize) -> &[AttrTree]
+    ensures { result.now ≡ attributes.own_at types.now number }
+{
+    match types.get(number) {
+        Some(tree) => own(tree),
+        None => &[],
+    }
+}
+
+/// Whether a type has an own attribute with a name.
+fn owns(types: &[TypeTree], name: &Text, number: usize) -> bool
+    ensures { result ≡ attributes.owns types.now name.now number }
+{
+    own_at(types, number)
+        .iter()
+        .any(|attribute| attribute.name.text == *name)
+}
+
+/// Whether one of some types does.
+fn any_owns(types: &[TypeTree], name: &Text, numbers: &[usize]) -> bool
+    ensures { result ≡ list_any (attributes.owns types.now name.now) numbers.now }
+{
+    numbers.iter().any(|number| owns(types, name, *number))
+}
+
+fn check_own(
+    alloc: Global,
+    types: &[TypeTree],
+    above: &[usize],
+    own: &[AttrTree],
+    out: &mut List<Failure>,
+) -> Result<(), Memory>
+    ensures { OnOk result (out.new ≡ out.old ++ flat_map (clash types.now above.now) own.now) }
+{
+    'attribute: for attribute in own {
+        let is_free = !any_owns(types, &attribute.name.text, above);
+        fail_unless(alloc, is_free, &attribute.name, out)?;
+    }
+    Ok(())
+}
+
+fn check_type(
+    alloc: Global,
+    types: &[TypeTree],
+    bases: &[Option<usize>],
+    number: usize,
+    tree: &TypeTree,
+    out: &mut List<Failure>,
+) -> Result<(), Memory>
+    ensures { OnOk result (out.new ≡ out.old ++ clashes types.now bases.now (number, tree.now)) }
+{
+    let above = chain_above(alloc, bases, number)?;
+    check_own(alloc, types, above.items(), own(tree), out)
+}
+
+fn check_types(
+    alloc: Global,
+    types: &[TypeTree],
+    bases: &[Option<usize>],
+    out: &mut List<Failure>,
+) -> Result<(), Memory>
+    ensures { OnOk result (out.new ≡ out.old ++ flat_map (clashes types.now bases.now) (enumerate_from 0 types.now)) }
+{
+    'tree: for (i, tree) in types.iter().enumerate() {
+        check_type(alloc, types, bases, i, tree, out)?;
+    }
+    Ok(())
+}
+
+fn check_decls(alloc: Global, decls: &[DeclTree], out: &mut List<Failure>) -> Result<(), Memory>
+    ensures { OnOk result (out.new ≡ out.old ++ flat_map given_twice decls.now) }
+{
+    'decl: for decl in decls {
+        repeat_into(alloc, decl.gives.items(), out)?;
+    }
+    Ok(())
+}
+
+/// The attributes that have an inherited one's name, and those that a declaration gives twice.
+pub(crate) fn find_clashing(
+    alloc: Global,
+    names: &Names,
+    tree: &SpecTree,
+) -> Result<List<Failure>, Memory>
+    ensures { IfOk result (λ found. found ≡ clashing names.now.table tree.now) }
+{
+    let types = tree.domain.types.items();
+    let bases = all_bases(alloc, names, types)?;
+    let mut out = List::new(alloc);
+    check_types(alloc, types, bases.items(), &mut out)?;
+    check_decls(alloc, tree.contract.declarations.items(), &mut out)?;
+    Ok(out)
+}

@@ -1,0 +1,144 @@
+ghost use Rattle.std.specs.Prelude.{◌≡◌, ◌++◌, nat_eq, map, OnOk, IfOk};
+ghost use Rattle.std.specs.List.{flat_map, enumerate_from, list_any};
+ghost use Rattle.sy_domain.specs.Chains as chains;
+ghost use Rattle.sy_domain.specs.Chains.{above, base_number, cyclic_name, cyclic_types};
+
+use crate::failure::fail_unless;
+use crate::{Failure, Meaning, Names, Sort};
+use std::alloc::Global;
+use sy_base::{List, Memory};
+use sy_lex::Written;
+use sy_spec::{BaseTree, SpecTree, TypeTree};
+
+/// The number of the type that a type is derived from.
+fn base_of(names: &Names, tree: &TypeTree) -> Option<usize>
+    ensures { result ≡ base_number names.now.table tree.now }
+{
+    match tree {
+        TypeTree::Derived(_, BaseTree::Named(name), _) => match names.meaning(&name.text) {
+            Some(Meaning::Type(Sort::Declared(number))) => Some(number),
+            _ => None,
+        },
+        _ => None,
+    }
+}
+
+/// The numbers of the types that types are derived from.
+pub(crate) fn all_bases(
+    alloc: Global,
+    names: &Names,
+    types: &[TypeTree],
+) -> Result<List<Option<usize>>, Memory>
+    ensures { IfOk result (λ bases. bases ≡ map (base_number names.now.table) types.now) }
+{
+    let mut bases = List::new(alloc);
+    'tree: for tree in types {
+        bases.push(base_of(names, tree))?;
+    }
+    Ok(bases)
+}
+
+pub(crate) fn base_at(bases: &[Option<usize>], number: usize) -> Option<usize>
+    ensures { result ≡ chains.base_at bases.now number }
+{
+    match bases.get(number) {
+        Some(base) => *base,
+        None => None,
+    }
+}
+
+/// The isA chain above a type.
+pub(crate) fn chain_above(
+    alloc: Global,
+    bases: &[Option<usize>],
+    number: usize,
+) -> Result<List<usize>, Memory>
+    ensures { IfOk result (λ l. l ≡ above bases.now number) }
+{
+    let mut out = List::new(alloc);
+    let mut at = base_at(bases, number);
+    'steps: for k in 0..bases.len() {
+        match at {
+            None => return Ok(out),
+            Some(reached) => {
+                out.push(reached)?;
+                at = base_at(bases, reached);
+            }
+        }
+    }
+    Ok(out)
+}
+
+/// Whether a type stands on the isA chain above another.
+pub(crate) fn is_above(bases: &[Option<usize>], from: usize, to: usize) -> bool
+    ensures { result ≡ list_any (nat_eq to) (above bases.now from) }
+{
+    let mut at = base_at(bases, from);
+    'steps: for k in 0..bases.len() {
+        match at {
+            None => return false,
+            Some(reached) => {
+                if to == reached {
+                    return true;
+                }
+                at = base_at(bases, reached);
+            }
+        }
+    }
+    false
+}
+
+fn type_name(tree: &TypeTree) -> &Written
+    ensures { result.now ≡ chains.type_name tree.now }
+{
+    match tree {
+        TypeTree::Enumeration(name, _) => name,
+        TypeTree::Derived(name, _, _) => name,
+    }
+}
+
+fn check_type(
+    alloc: Global,
+    bases: &[Option<usize>],
+    number: usize,
+    tree: &TypeTree,
+    out: &mut List<Failure>,
+) -> Result<(), Memory>
+    ensures { OnOk result (out.new ≡ out.old ++ cyclic_name bases.now (number, tree.now)) }
+{
+    fail_unless(
+        alloc,
+        !is_above(bases, number, number),
+        type_name(tree),
+        out,
+    )
+}
+
+fn check_all(
+    alloc: Global,
+    bases: &[Option<usize>],
+    types: &[TypeTree],
+    out: &mut List<Failure>,
+) -> Result<(), Memory>
+    ensures { OnOk result (out.new ≡ out.old ++ flat_map (cyclic_name bases.now) (enumerate_from 0 types.now)) }
+{
+    'tree: for (i, tree) in types.iter().enumerate() {
+        check_type(alloc, bases, i, tree, out)?;
+    }
+    Ok(())
+}
+
+/// The types on a cycle of derivations.
+pub(crate) fn find_cyclic(
+    alloc: Global,
+    names: &Names,
+    tree: &SpecTree,
+) -> Result<List<Failure>, Memory>
+    ensures { IfOk result (λ found. found ≡ cyclic_types names.now.table tree.now.domain.types) }
+{
+    let types = tree.domain.types.items();
+    let bases = all_bases(alloc, names, types)?;
+    let mut out = List::new(alloc);
+    check_all(alloc, bases.items(), types, &mut out)?;
+    Ok(out)
+}
