@@ -1,0 +1,13 @@
+//! The check that every name that is used in a specification is declared for its place.
+#![tactic(auto)]
+
+mod declarations;
+mod events;
+mod paths;
+mod targets;
+#[cfg(test)]
+mod tests;
+mod unknown;
+mod uses;
+
+pub use unknown::unknown_names;
