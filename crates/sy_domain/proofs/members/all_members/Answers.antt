@@ -6,7 +6,7 @@ use Rattle.sy_domain.proofs.members.all_members.Goals as goal
 pub tree-preserved : goal.tree-preserved
 tree-preserved c =
     map_turn (λ m. m.entries) (members_of c.args.names.now.table c.args.types.now c.args.bases.now)
-    c.tree.tables.items c.push.new.self.items c.in_ok-members_of.field-0
+    c.tree.tables.items c.push.new.self.items c.in_ok-table.table
     c.args.types.now c.tree.i c.index-types-i.result c.tree-test.true c.tree.invariant
     c.in_ok-push.ensures.items
-    (c.in_ok-members_of.ensures (get_or c.args.types.now c.tree.i c.index-types-i.result))
+    (c.in_ok-table.ensures (get_or c.args.types.now c.tree.i c.index-types-i.result))

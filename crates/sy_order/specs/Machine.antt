@@ -1,0 +1,5 @@
+pub mod Places
+pub mod Powers
+pub mod Remedies
+pub mod Tables
+pub mod NodeEdges
