@@ -4,7 +4,7 @@ use Rattle.std.specs.Prelude.{not, is_some, if◌then◌else◌, List, [], Optio
 use Rattle.sy_base.specs.declared.refusal.FaultName.TheVariants as Fault
 use Rattle.sy_base.specs.declared.refusal.Refusal.{Refusal}
 use Rattle.sy_base.specs.declared.time.TimeUnit.{TimeUnit}
-use Rattle.sy_base.specs.Points.{is_finer}
+use Rattle.sy_base.specs.Measures.{is_finer}
 use Rattle.sy_lex.specs.declared.written.Written.{Written}
 use Rattle.sy_tree.specs.declared.term.SingleTree.{SingleTree}
 use Rattle.sy_tree.specs.declared.term.SingleTree.TheVariants as Single

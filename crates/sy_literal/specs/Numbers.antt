@@ -2,7 +2,7 @@
 use Rattle.std.specs.Prelude.{ℕ, ◌^◌, nat_le, List, []}
 use Rattle.sy_base.specs.declared.refusal.FaultName.TheVariants as Fault
 use Rattle.sy_base.specs.declared.time.Measure.{Measure}
-use Rattle.sy_base.specs.Points.{greatest_count}
+use Rattle.sy_base.specs.Measures.{greatest_count}
 use Rattle.sy_lex.specs.declared.written.Written.{Written}
 use Rattle.sy_tree.specs.declared.term.SingleTree.{SingleTree}
 use Rattle.sy_tree.specs.declared.term.SingleTree.TheVariants as Single

@@ -1,5 +1,5 @@
 ghost use Rattle.std.specs.Prelude.{◌≡◌, ◌++◌, IfOk, OnOk};
-ghost use Rattle.sy_base.specs.Points as points;
+ghost use Rattle.sy_base.specs.Measures as measures;
 ghost use Rattle.sy_domain.specs.Failures as failures;
 ghost use Rattle.sy_literal.specs.Calendar as calendar;
 ghost use Rattle.sy_literal.specs.Calendar.{bad_date, bad_dates, calendar_refusal, fine_measures};
@@ -52,7 +52,7 @@ impl Literals for BadDates {
 
 /// Whether a measure is finer than a unit.
 fn is_finer(measure: Measure, unit: TimeUnit) -> bool
-    ensures { result ≡ points.is_finer measure unit }
+    ensures { result ≡ measures.is_finer measure unit }
 {
     match unit {
         TimeUnit::Minute => false,

@@ -1,5 +1,5 @@
 ghost use Rattle.std.specs.Prelude.{◌≡◌, ◌++◌, ◌≤◌, ◌^◌, nat_le, IfOk, OnOk};
-ghost use Rattle.sy_base.specs.Points as points;
+ghost use Rattle.sy_base.specs.Measures as measures;
 ghost use Rattle.sy_literal.specs.Numbers.{great_numbers, too_great};
 ghost use Rattle.sy_literal.specs.Values.{number_value};
 
@@ -15,7 +15,7 @@ use sy_tree::{CountTree, DurationTree, SingleTree};
 
 /// The greatest count of a measure: each spans at most 146,097 days.
 pub fn greatest_count(measure: Measure) -> u64
-    ensures value { result ≡ points.greatest_count measure }
+    ensures value { result ≡ measures.greatest_count measure }
     ensures bound { result ≤ 10 ^ 15 }
 {
     match measure {

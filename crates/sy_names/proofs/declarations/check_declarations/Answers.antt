@@ -1,5 +1,5 @@
 use Rattle.sy_names.specs.Declarations.{unknown_in_declaration}
-use Rattle.sy_domain.proofs.Numbered.{flat_map_turn}
+use Rattle.sy_base.proofs.Numbered.{flat_map_turn}
 use Rattle.sy_names.proofs.declarations.check_declarations.Goals as goal
 
 pub declaration-preserved : goal.declaration-preserved
