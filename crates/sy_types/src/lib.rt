@@ -1,0 +1,17 @@
+//! The check that no phrase of a specification breaks the rules of types.
+#![tactic(auto)]
+
+mod attributes;
+mod comparisons;
+mod conditions;
+mod dates;
+mod declarations;
+mod phrases;
+mod positions;
+mod targets;
+mod terms;
+#[cfg(test)]
+mod tests;
+mod wrong;
+
+pub use wrong::wrong_types;
