@@ -4,7 +4,6 @@ use Rattle.sy_base.specs.declared.refusal.Place.{Place}
 use Rattle.sy_words.specs.declared.comparison.Cmp.{Cmp}
 use Rattle.sy_words.specs.declared.comparison.Cmp.TheVariants as C
 use Rattle.sy_words.specs.declared.kind.Kind.{Kind}
-use Rattle.sy_lex.specs.declared.keyword.Keyword.{Keyword}
 use Rattle.sy_lex.specs.declared.keyword.Keyword.TheVariants as K
 use Rattle.sy_lex.specs.declared.sign.Sign.{Sign}
 use Rattle.sy_lex.specs.declared.sign.Sign.TheVariants.{Dot, Open, Close, OpenBracket, CloseBracket, Equal, NotEqual, Less, AtMost, Greater, AtLeast, Plus, Minus, Times}
