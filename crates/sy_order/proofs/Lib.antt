@@ -5,3 +5,4 @@ pub mod Needing
 pub mod Numbering
 pub mod Parts
 pub mod Remedying
+pub mod SoundNames

@@ -1,3 +1,4 @@
 pub mod Nodes
 pub mod Naming
+pub mod Texts
 pub mod Machine

@@ -1,5 +1,6 @@
+pub mod Names
+pub mod NodeEdges
 pub mod Places
 pub mod Powers
 pub mod Remedies
 pub mod Tables
-pub mod NodeEdges

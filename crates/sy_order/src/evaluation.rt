@@ -13,9 +13,8 @@ use crate::node::Node;
 use crate::table::Table;
 use std::alloc::Global;
 use sy_base::{List, Memory};
-use sy_core::{Deed, Position};
+use sy_core::Deed;
 use sy_strata::{Edge, OrderFault, order};
-use sy_words::Form;
 
 /// The order in which the deed's nodes are evaluated, by number, whatever order stands in the deed.
 /// The deed has at most 500 positions, and names only what is there.
@@ -32,22 +31,10 @@ pub fn evaluation_order(alloc: Global, deed: &Deed) -> Result<List<u32>, OrderFa
     ensures cycle { IfErr result (IsCycleFault (numbered_needs deed.now) (length (nodes deed.now))) }
     ensures circle { IfErr result (IsCircleFault (numbered_needs deed.now)) }
 {
-    let forms = forms_of(alloc, deed.positions.items())?;
-    let index = NodeIndex::of(alloc, forms.items())?;
+    let index = NodeIndex::of_deed(alloc, deed)?;
     let table = Table::of(alloc, deed)?;
     let edges = edges(alloc, &table, &index)?;
     order(alloc, index.count(), edges.items())
-}
-
-/// The forms of the positions, in order.
-pub fn forms_of(alloc: Global, positions: &[Position]) -> Result<List<Form>, Memory>
-    ensures { IfOk result (λ forms. forms ≡ forms_of positions.now) }
-{
-    let mut forms = List::new(alloc);
-    for position in positions {
-        forms.push(position.form)?;
-    }
-    Ok(forms)
 }
 
 /// The edges from each node to what it needs.

@@ -1,11 +1,13 @@
 ghost use Rattle.std.specs.Prelude.{◌≡◌, ◌≤◌, ◌<◌, ◌-◌, ◌^◌, Some, IfOk, length, slice_get, unwrap_or};
-ghost use Rattle.sy_order.specs.Nodes.{as_defined, nodes_by, number_by};
+ghost use Rattle.sy_core.specs.Prerequisites.{nodes};
+ghost use Rattle.sy_order.specs.Nodes.{as_defined, nodes_by, number_by, forms_of};
 ghost use Rattle.sy_order.specs.Machine.Places.{exert_number, trig_number, IsPlaceOf};
 
 use crate::node::{Node, Nodes};
 use std::alloc::Global;
 use std::marker::Model;
 use sy_base::{List, Memory};
+use sy_core::{Deed, Position};
 use sy_words::Form;
 
 /// A position's form, and the number of its first node.
@@ -75,6 +77,16 @@ impl NodeIndex {
         Ok(NodeIndex { places, nodes })
     }
 
+    /// The index of the nodes of a deed.
+    pub fn of_deed(alloc: Global, deed: &Deed) -> Result<NodeIndex, Memory>
+        requires { length deed.now.positions ≤ 500 }
+        ensures forms { IfOk result (λ index. index ≡ forms_of deed.now.positions) }
+        ensures nodes { IfOk result (λ index. nodes_by index ≡ nodes deed.now) }
+    {
+        let forms = forms_of(alloc, deed.positions.items())?;
+        NodeIndex::of(alloc, forms.items())
+    }
+
     /// How many nodes there are.
     pub fn count(&self) -> u32
         ensures { result ≡ length (nodes_by self.now) }
@@ -119,6 +131,17 @@ impl NodeIndex {
     {
         place_at(self.places.items(), position)
     }
+}
+
+/// The forms of the positions, in order.
+fn forms_of(alloc: Global, positions: &[Position]) -> Result<List<Form>, Memory>
+    ensures { IfOk result (λ forms. forms ≡ forms_of positions.now) }
+{
+    let mut forms = List::new(alloc);
+    for position in positions {
+        forms.push(position.form)?;
+    }
+    Ok(forms)
 }
 
 /// The place of a position, if it is there.

@@ -4,14 +4,18 @@
 mod evaluation;
 mod index;
 mod names;
+mod naming_law;
 mod needs;
 mod node;
 mod power;
 mod remedy;
 mod table;
+#[cfg(test)]
+mod tests;
 mod text;
 
-pub use evaluation::{evaluation_order, forms_of};
+pub use evaluation::evaluation_order;
 pub use index::NodeIndex;
+pub use naming_law::sound_parts_are_there;
 pub use node::Node;
 pub use text::node_text;

@@ -91,14 +91,20 @@ fn push_end_needs(
     requires { number < length table.now.positions }
     ensures { OnOk result (nodes.new ≡ nodes.old ++ defined.end_needs table.now number position.now) }
 {
+    let Position {
+        form,
+        antecedent,
+        goal,
+        ..
+    } = position;
     nodes.push(Node::Trig(number))?;
     nodes.push(Node::Act(number))?;
-    push_named(alloc, nodes, table, &position.antecedent)?;
-    push_named_by_goal(alloc, nodes, table, &position.goal)?;
+    push_named(alloc, nodes, table, antecedent)?;
+    push_named_by_goal(alloc, nodes, table, goal)?;
     table.push_exerts(nodes, Verb::Discharges, number)?;
     table.push_exerts(nodes, Verb::Terminates, number)?;
-    push_contract_end(nodes, table, position.form)?;
-    nodes.push_own_exert(position.form, number)
+    push_contract_end(nodes, table, *form)?;
+    nodes.push_own_exert(*form, number)
 }
 
 /// Adds the exertions that end the contract, for a form that doesn't survive it.
