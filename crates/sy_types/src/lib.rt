@@ -14,4 +14,5 @@ mod terms;
 mod tests;
 mod wrong;
 
+pub use targets::{is_act_on, is_contract_act, is_contract_kind, is_kind_of};
 pub use wrong::wrong_types;

@@ -66,7 +66,7 @@ fn fail_unless_word(
 }
 
 /// Whether a position of a form has internal events of a kind.
-fn is_kind_of(form: Form, kind: Kind) -> bool
+pub fn is_kind_of(form: Form, kind: Kind) -> bool
     ensures { result ≡ soundness.is_kind_of form kind }
 {
     match kind {
@@ -78,7 +78,7 @@ fn is_kind_of(form: Form, kind: Kind) -> bool
 }
 
 /// Whether the contract has internal events of a kind.
-fn is_contract_kind(kind: Kind) -> bool
+pub fn is_contract_kind(kind: Kind) -> bool
     ensures { result ≡ soundness.is_contract_kind kind }
 {
     matches!(
@@ -88,7 +88,7 @@ fn is_contract_kind(kind: Kind) -> bool
 }
 
 /// Whether a verb can be done to a position of a form.
-fn is_act_on(form: Form, verb: Verb) -> bool
+pub fn is_act_on(form: Form, verb: Verb) -> bool
     ensures { result ≡ soundness.is_act_on form verb }
 {
     match verb {
@@ -98,7 +98,7 @@ fn is_act_on(form: Form, verb: Verb) -> bool
 }
 
 /// Whether a verb can be done to the contract.
-fn is_contract_act(verb: Verb) -> bool
+pub fn is_contract_act(verb: Verb) -> bool
     ensures { result ≡ soundness.is_contract_act verb }
 {
     matches!(verb, Verb::Suspends | Verb::Resumes | Verb::Terminates)
