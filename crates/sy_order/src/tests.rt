@@ -7,7 +7,7 @@ ghost use Rattle.sy_order.specs.Nodes.{nodes_by, forms_of};
 ghost use Rattle.sy_order.specs.Naming as naming;
 
 use crate::names::{InternalEvent, names_of};
-use crate::{Node, NodeIndex, evaluation_order, node_text};
+use crate::{NodeIndex, evaluation_order, node_text};
 use std::alloc::Global;
 use std::test::Fail;
 use sy_base::{List, Memory, Text, TimeUnit};
@@ -350,36 +350,5 @@ fn orders_a_deed_of_500_positions(rt: HostRuntime) -> Result<(), Fail> {
     let deed = large_deed(alloc)?;
     let text = told(alloc, &deed)?;
     assert_eq!(rt; text.len(), 250 * (8 + 7 + 7) + 250 * (9 + 8 + 7 + 7) + 9);
-    Ok(())
-}
-
-/// The nodes of an obligation, a power and a surviving obligation.
-static NODES: [Node; 11] = [
-    Node::Trig(0),
-    Node::Act(0),
-    Node::End(0),
-    Node::Exert(1),
-    Node::Trig(1),
-    Node::Act(1),
-    Node::End(1),
-    Node::Trig(2),
-    Node::Act(2),
-    Node::End(2),
-    Node::Contract,
-];
-
-/// A number gives its node, and the node its number. One that isn't there gives the count.
-#[test]
-fn numbers_nodes(rt: HostRuntime) -> Result<(), Fail> {
-    let forms = [Form::Obligation, Form::Power, Form::Surviving];
-    let index = NodeIndex::of(rt.alloc(), &forms)?;
-    for (number, node) in NODES.iter().enumerate() {
-        assert_eq!(rt; index.number(*node) as usize, number);
-        assert!(rt; number < index.count() as usize);
-        assert!(rt; index.node(number as u32) == *node);
-    }
-    assert_eq!(rt; index.number(Node::Exert(0)), 11);
-    assert_eq!(rt; index.number(Node::End(3)), index.count());
-    assert_eq!(rt; Node::Act(7).position(), Some(7));
     Ok(())
 }
