@@ -313,7 +313,7 @@ fn deed(alloc: Global, rows: &[Row]) -> Result<Deed, Memory> {
     Ok(deed_of(alloc, positions))
 }
 
-/// The deed that has each row 250 times.
+/// The deed that has each of the two positions 250 times.
 fn large_deed(alloc: Global) -> Result<Deed, Memory> {
     let mut positions = List::new(alloc);
     for number in 0..500 {
