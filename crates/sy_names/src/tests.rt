@@ -13,10 +13,10 @@ use sy_spec::spec;
 fn with_parts(alloc: Global, declaration: &str, obligation: &str) -> Result<String, AllocError> {
     format!(in alloc;
         "Domain d
-P isA Role with name: Text;
+R isA Role with name: Text;
 E isAn Event with Env n: Number;
 endDomain
-Contract C(p: P) unit Day
+Contract C(p: R) unit Day
 Declarations
 {declaration};
 e: E;
@@ -53,35 +53,35 @@ fn is_at(found: &Option<Refusal>, wanted: Option<(u64, u64, &str)>) -> bool {
 /// A declaration and an obligation, and the first name in them that isn't declared for its place.
 const ROWS: &[(&str, &str, Option<(u64, u64, &str)>)] = &[
     (
-        "q: P with name := p.name",
+        "q: R with name := p.name",
         "o: O(p, q, not holds(state(o) = Violation), happens(e[n > 1]))",
         None,
     ),
     // Its own name, and no attribute.
     (
-        "q: P with name := q.name",
+        "q: R with name := q.name",
         "o: O(p, q, true, happens(e))",
         Some((7, 19, "q")),
     ),
     (
-        "q: P with age := 1",
+        "q: R with age := 1",
         "o: O(p, q, true, happens(e))",
         Some((7, 11, "age")),
     ),
     // A role that happens, and an Env attribute that it hasn't.
     (
-        "q: P with name := p.name",
+        "q: R with name := p.name",
         "o: O(p, q, true, happens(q[n > 1]))",
         Some((10, 26, "q")),
     ),
     // A party before a state of the contract.
     (
-        "q: P with name := p.name",
+        "q: R with name := p.name",
         "o: O(p, r, holds(state(o) = Form), happens(e))",
         Some((10, 9, "r")),
     ),
     (
-        "q: P with name := p.name",
+        "q: R with name := p.name",
         "o: O(p, q, holds(state(o) = Form), happens(e))",
         Some((10, 29, "Form")),
     ),
