@@ -2,3 +2,5 @@ pub mod EachValue
 pub mod Naming
 pub mod Chain
 pub mod ChainTurn
+pub mod Climbs
+pub mod Ups

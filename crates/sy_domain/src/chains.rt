@@ -1,9 +1,11 @@
-ghost use Rattle.std.specs.Prelude.{◌≡◌, ◌++◌, nat_eq, map, OnOk, IfOk};
+ghost use Rattle.std.specs.Prelude.{◌≡◌, ◌++◌, nat_eq, map, get_or, is_some, None, OnOk, IfOk};
 ghost use Rattle.std.specs.List.{flat_map, enumerate_from, list_any};
 ghost use Rattle.sy_domain.specs.Chains as chains;
-ghost use Rattle.sy_domain.specs.Chains.{above, base_number, cyclic_name, cyclic_types};
+ghost use Rattle.sy_domain.specs.Chains.{above, base_number, cyclic_types};
+ghost use Rattle.sy_domain.specs.Machine.Walks.{marked_name};
 
 use crate::failure::fail_unless;
+use crate::walks::find_cycles;
 use crate::{Failure, Meaning, Names, Sort};
 use std::alloc::Global;
 use sy_base::{List, Memory};
@@ -97,33 +99,35 @@ fn type_name(tree: &TypeTree) -> &Written
     }
 }
 
+/// Whether a type has a mark.
+fn has_mark(marks: &[Option<usize>], number: usize) -> bool
+    ensures { result ≡ is_some (get_or marks.now number None) }
+{
+    matches!(marks.get(number), Some(Some(_)))
+}
+
 fn check_type(
     alloc: Global,
-    bases: &[Option<usize>],
+    cyclic: &[Option<usize>],
     number: usize,
     tree: &TypeTree,
     out: &mut List<Failure>,
 ) -> Result<(), Memory>
-    ensures { OnOk result (out.new ≡ out.old ++ cyclic_name bases.now (number, tree.now)) }
+    ensures { OnOk result (out.new ≡ out.old ++ marked_name cyclic.now (number, tree.now)) }
 {
-    fail_unless(
-        alloc,
-        !is_above(bases, number, number),
-        type_name(tree),
-        out,
-    )
+    fail_unless(alloc, !has_mark(cyclic, number), type_name(tree), out)
 }
 
 fn check_all(
     alloc: Global,
-    bases: &[Option<usize>],
+    cyclic: &[Option<usize>],
     types: &[TypeTree],
     out: &mut List<Failure>,
 ) -> Result<(), Memory>
-    ensures { OnOk result (out.new ≡ out.old ++ flat_map (cyclic_name bases.now) (enumerate_from 0 types.now)) }
+    ensures { OnOk result (out.new ≡ out.old ++ flat_map (marked_name cyclic.now) (enumerate_from 0 types.now)) }
 {
     'tree: for (i, tree) in types.iter().enumerate() {
-        check_type(alloc, bases, i, tree, out)?;
+        check_type(alloc, cyclic, i, tree, out)?;
     }
     Ok(())
 }
@@ -138,7 +142,8 @@ pub(crate) fn find_cyclic(
 {
     let types = tree.domain.types.items();
     let bases = all_bases(alloc, names, types)?;
+    let cyclic = find_cycles(alloc, bases.items())?;
     let mut out = List::new(alloc);
-    check_all(alloc, bases.items(), types, &mut out)?;
+    check_all(alloc, &cyclic, types, &mut out)?;
     Ok(out)
 }

@@ -10,6 +10,7 @@ mod members;
 mod names;
 mod type_names;
 mod types;
+mod walks;
 
 pub use checks::ontology;
 pub use failure::{Failure, fail_unless, first, refusal};
