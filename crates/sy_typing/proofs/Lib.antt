@@ -1,0 +1,8 @@
+mod Existence
+mod Few
+mod FirstFault
+mod Kept
+mod Lines
+mod Outlined
+mod Refusals
+mod Turns

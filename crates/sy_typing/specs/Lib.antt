@@ -1,0 +1,4 @@
+pub mod Machine
+pub mod Outlines
+pub mod Plans
+pub mod Positions
