@@ -6,6 +6,7 @@ pub mod Fitting
 pub mod Marking
 pub mod Runs
 pub mod Noting
+pub mod Planned
 pub mod Printable
 pub mod Replying
 pub mod Streaming

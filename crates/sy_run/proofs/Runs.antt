@@ -13,7 +13,7 @@ use Rattle.sy_run.specs.Machine.Stopping.{IsToldAs, is_read_stop}
 use Rattle.sy_run.specs.Machine.Stream.{HowStopped, refused, half_refused, not_refused, not_read, no_memory, IsReadingStatus, IsUsageStatus, IsWritingStatus, StopsWith, StreamCaused, StreamEnds, WriteCaused, WroteAllRead}
 use Rattle.sy_run.specs.Outcomes.{End, Finished, Stopped, Missing, Misused, GivesDeed, IsAskedFor, IsOutcome, Outcome, asked_by_lines, compiled, monitored, stopped, usage}
 use Rattle.sy_run.specs.Run.{Caused, Completes, Ends, EndsAs, IsRun, IsStatusFor, IsStatusOf, KnowsFor}
-use Rattle.sy_run.specs.Texts.{IsDeedIn, IsSpecIn}
+use Rattle.sy_run.specs.Texts.{IsDeedIn, IsSoundSpecIn}
 use Rattle.sy_run.specs.World.{World, InputStays, NoneFailed, ReadsSteady}
 use Rattle.sy_run.specs.declared.stop.Stop.{Stop}
 use Rattle.sy_run.specs.declared.stop.Stop.TheVariants as stop
@@ -80,7 +80,7 @@ writing_status spec Undecided is = absurd is
 
 -- a specification was read and its text written
 pub compiled_run : (spec : List ℕ) (before after : World) (tree : SpecTree) (status : Status)
-    → ((text : Option (List ℕ)) → before.file spec ≡ Some text → IsSpecIn text (Ok tree))
+    → ((text : Option (List ℕ)) → before.file spec ≡ Some text → IsSoundSpecIn text (Ok tree))
     → Ends before.held after.held (compiled (Ok tree)) status → IsWritingStatus status → WriteCaused before.output_faults after.output_faults status
     → after.file_faults ≡ before.file_faults → InputStays before after → IsRun (Compile spec) before after status
 compiled_run spec before after tree status given ends is wrote files stays =
@@ -242,9 +242,9 @@ reading_monitor spec bind Found is = absurd is
 reading_monitor spec bind Usage is = absurd is
 reading_monitor spec bind Undecided is = absurd is
 
-pub compile_stops : (spec : List ℕ) (before : World) (why : Stop) → ((text : Option (List ℕ)) → before.file spec ≡ Some text → IsToldAs (IsSpecIn text) (Err why)) → StopsBy (Compile spec) before why
+pub compile_stops : (spec : List ℕ) (before : World) (why : Stop) → ((text : Option (List ℕ)) → before.file spec ≡ Some text → IsToldAs (IsSoundSpecIn text) (Err why)) → StopsBy (Compile spec) before why
 compile_stops spec before why given = record {
-  outcome = λ refusal is knows. (Err (stop.Refused refusal), (knows.0, knows.1, given_refusal (IsSpecIn knows.0) why refusal is (given knows.0 knows.1)), refl);
+  outcome = λ refusal is knows. (Err (stop.Refused refusal), (knows.0, knows.1, given_refusal (IsSoundSpecIn knows.0) why refusal is (given knows.0 knows.1)), refl);
   asked = refl;
   reads = reading_compile spec;
 }

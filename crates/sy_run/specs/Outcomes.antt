@@ -1,13 +1,14 @@
 -- The outcome of a command in a world: the text that it writes, and how it ends.
-use Rattle.std.specs.Prelude.{◌≡◌, ◌⊎◌, ℕ, Bool, true, false, List, [], Option, Some, Result, Ok, Err}
+use Rattle.std.specs.Prelude.{◌≡◌, ◌⊎◌, ℕ, Bool, true, false, List, [], ◌++◌, Option, Some, Result, Ok, Err}
 use Rattle.sy_outside.specs.Lines.{lines_of, whole_lines_of}
 use Rattle.sy_core.specs.declared.deed.Deed.{Deed}
 use Rattle.sy_print.specs.CanonicalText.{canonical_text}
 use Rattle.sy_spec.specs.declared.contract.SpecTree.{SpecTree}
+use Rattle.sy_typing.specs.Plans.{order_text}
 use Rattle.sy_run.specs.Commands.{Command, Compile, Monitor, Unknown, usage_line}
 use Rattle.sy_run.specs.Output.{output, is_refused}
 use Rattle.sy_report.specs.RefusalText.{refusal_text}
-use Rattle.sy_run.specs.Texts.{IsDeedIn, IsSpecIn}
+use Rattle.sy_run.specs.Texts.{IsDeedIn, IsSoundSpecIn}
 use Rattle.sy_run.specs.World.{World}
 use Rattle.sy_run.specs.declared.stop.Stop.{Stop}
 use Rattle.sy_run.specs.declared.stop.Stop.TheVariants as stop
@@ -32,9 +33,9 @@ abbrev pub stopped : Stop → Outcome
 stopped (stop.Refused refusal) = record { text = refusal_text refusal; end = Stopped }
 stopped why = record { text = []; end = Missing }
 
--- the outcome of a specification that is compiled
+-- the outcome of a specification that is compiled: its canonical text, and behind it the order of evaluation, a line for each node
 abbrev pub compiled : Result SpecTree Stop → Outcome
-compiled (Ok tree) = record { text = canonical_text tree; end = Finished }
+compiled (Ok tree) = record { text = canonical_text tree ++ order_text tree; end = Finished }
 compiled (Err why) = stopped why
 
 -- the end of a log, one of whose lines may be refused
@@ -51,9 +52,9 @@ monitored (Err why) log = stopped why
 abbrev pub usage : Outcome
 usage = record { text = usage_line; end = Misused }
 
--- what a file gives, where its bytes are known, and what two files give
+-- what a file gives, where its bytes are known: a specification without a fault; and what two files give
 abbrev pub GivesSpec : World → List ℕ → Result SpecTree Stop → Type 0
-GivesSpec world spec tree = (text : Option (List ℕ)) × (world.file spec ≡ Some text) × IsSpecIn text tree
+GivesSpec world spec tree = (text : Option (List ℕ)) × (world.file spec ≡ Some text) × IsSoundSpecIn text tree
 
 abbrev pub GivesDeed : World → List ℕ → List ℕ → Result Deed Stop → Type 0
 GivesDeed world spec bind deed =

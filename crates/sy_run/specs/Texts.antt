@@ -16,6 +16,7 @@ use Rattle.sy_binding.specs.Spelling.{SpellsBinding}
 use Rattle.sy_reader.specs.Faults.{IsSyntaxFault}
 use Rattle.sy_run.specs.FirstPath.{due_date, start_date, deed}
 use Rattle.sy_report.specs.RefusalText.{whole}
+use Rattle.sy_typing.specs.Plans.{spec_fault}
 use Rattle.sy_run.specs.declared.stop.Stop.{Stop}
 use Rattle.sy_run.specs.declared.stop.Stop.TheVariants as stop
 
@@ -44,6 +45,19 @@ IsTreeOf file spells (Err why) result = result ≡ Err why
 -- the specification in a file
 abbrev pub IsSpecIn : Option (List ℕ) → Result SpecTree Stop → Type 0
 IsSpecIn told result = IsTreeOf Spec SpellsSpec (bytes_in Spec told) result
+
+-- a specification that is read is refused for the first fault that its checks find
+abbrev pub accepted : SpecTree → Option Refusal → Result SpecTree Stop
+accepted tree None = Ok tree
+accepted tree (Some refusal) = Err (stop.Refused refusal)
+
+abbrev pub checked : Result SpecTree Stop → Result SpecTree Stop
+checked (Ok tree) = accepted tree (spec_fault tree)
+checked (Err why) = Err why
+
+-- the specification without a fault in a file
+abbrev pub IsSoundSpecIn : Option (List ℕ) → Result SpecTree Stop → Type 0
+IsSoundSpecIn told result = (tree : Result SpecTree Stop) × IsSpecIn told tree × (result ≡ checked tree)
 
 -- the binding in a file
 abbrev pub IsBindingIn : Option (List ℕ) → Result BindTree Stop → Type 0

@@ -1,4 +1,4 @@
-ghost use Rattle.std.specs.Prelude.{◌≡◌, ◌<◌, ◌^◌, ℕ, List, length, IsTrue, IfOk, Some};
+ghost use Rattle.std.specs.Prelude.{◌≡◌, ◌<◌, ◌^◌, ℕ, List, length, IsTrue, IfOk, Ok, Some};
 ghost use Rattle.std.specs.declared.option.Option.{Option};
 ghost use Rattle.sy_outside.specs.Outside.{CauseOf};
 ghost use Rattle.sy_base.specs.declared.refusal.FileKind.TheVariants as kind;
@@ -9,7 +9,7 @@ ghost use Rattle.sy_spec.specs.Spelling.{SpellsSpec};
 ghost use Rattle.sy_run.specs.FirstPath as first;
 ghost use Rattle.sy_run.specs.FirstPath.{IsFirstDeed};
 ghost use Rattle.sy_run.specs.Machine.Stopping.{IsToldAs, NoReadStop, is_read_stop};
-ghost use Rattle.sy_run.specs.Texts.{IsBindingIn, IsDeedIn, IsSpecIn, IsTree, bytes_in, date_or_refusal};
+ghost use Rattle.sy_run.specs.Texts.{IsBindingIn, IsDeedIn, IsSoundSpecIn, IsSpecIn, IsTree, bytes_in, checked, date_or_refusal};
 
 use crate::first_path::{deed, due_date, start_date};
 use crate::stop::Stop;
@@ -21,6 +21,7 @@ use sy_lex::tokens;
 use sy_outside::{FileFault, Files, read_file};
 use sy_report::whole;
 use sy_spec::{SpecTree, spec};
+use sy_typing::{Plan, plan};
 
 /// The bytes of a file.
 fn read_text<F: Files>(
@@ -66,11 +67,7 @@ fn binding_of(alloc: Global, bytes: &[u8]) -> Result<BindTree, Stop>
 }
 
 /// The specification in a file.
-pub(crate) fn read_spec<F: Files>(
-    alloc: Global,
-    files: &mut F,
-    name: &Text,
-) -> Result<SpecTree, Stop>
+fn read_spec<F: Files>(alloc: Global, files: &mut F, name: &Text) -> Result<SpecTree, Stop>
     requires { IsTrue (F.lent files.old name.now) }
     ensures told { (told : Option (List ℕ)) → F.told files.old name.now ≡ Some told → IsToldAs (IsSpecIn told) result }
     ensures cause { CauseOf is_read_stop (F.faults files.old) (F.faults files.new) result }
@@ -79,6 +76,29 @@ pub(crate) fn read_spec<F: Files>(
 {
     let text = read_text(alloc, files, name, FileKind::Spec)?;
     spec_of(alloc, text.bytes())
+}
+
+/// The plan of a specification that was read.
+fn plan_of(alloc: Global, tree: SpecTree) -> Result<Plan, Stop>
+    ensures told { IsToldAs (λ plan. plan ≡ checked (Ok tree)) result }
+    ensures cause { NoReadStop result }
+{
+    match plan(alloc, tree) {
+        Ok(plan) => Ok(plan),
+        Err(why) => Err(Stop::from(why)),
+    }
+}
+
+/// The plan of the specification in a file, where it has no fault.
+pub(crate) fn read_plan<F: Files>(alloc: Global, files: &mut F, name: &Text) -> Result<Plan, Stop>
+    requires { IsTrue (F.lent files.old name.now) }
+    ensures told { (told : Option (List ℕ)) → F.told files.old name.now ≡ Some told → IsToldAs (IsSoundSpecIn told) result }
+    ensures cause { CauseOf is_read_stop (F.faults files.old) (F.faults files.new) result }
+{
+    match read_spec(alloc, files, name) {
+        Ok(tree) => plan_of(alloc, tree),
+        Err(why) => Err(why),
+    }
 }
 
 /// The binding in a file.

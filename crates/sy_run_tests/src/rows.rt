@@ -3,7 +3,7 @@ use std::alloc::Global;
 use std::test::Fail;
 use sy_base::Memory;
 use sy_run::Status;
-use sy_samples::{s, s_bind, s_compiled};
+use sy_samples::{m, s, s_bind, s_compiled, t};
 
 const MONITOR: &[&[u8]] = &[b"monitor", b"SPEC", b"BIND"];
 
@@ -104,8 +104,37 @@ fn logs_are_answered(rt: HostRuntime) -> Result<(), Fail> {
 
 const COMPILE: &[&[u8]] = &[b"compile", b"SPEC"];
 
-/// The lines that `compile` doesn't write yet: the order in which the nodes are evaluated.
+/// The order in which the nodes of the first sale are evaluated.
 const ORDER: &[u8] = b"order Trig(oPay)\norder Act(oPay)\norder End(oPay)\norder Contract\n";
+
+/// The order in which the nodes of the meat sale are evaluated.
+static SALE_ORDER: &[u8] = b"\
+order Trig(oDeliver)
+order Act(oDeliver)
+order Trig(oPay)
+order Trig(oSecret)
+order Act(oSecret)
+order End(oSecret)
+order Exert(pHold)
+order Trig(pHold)
+order Act(pHold)
+order Exert(pGo)
+order Act(oPay)
+order Trig(pGo)
+order Act(pGo)
+order Exert(pEnd)
+order End(oDeliver)
+order End(oPay)
+order Trig(oLate)
+order Act(oLate)
+order End(oLate)
+order End(pHold)
+order End(pGo)
+order Trig(pEnd)
+order Act(pEnd)
+order End(pEnd)
+order Contract
+";
 
 /// A run of `compile` without faults.
 fn compiled(alloc: Global, spec: &[u8]) -> Result<Ran, Memory> {
@@ -127,10 +156,29 @@ fn a_canonical_text_is_compiled_to_itself(rt: HostRuntime) -> Result<(), Fail> {
     let canonical = s_compiled().strip_suffix(ORDER).unwrap_or(b"");
     let once = compiled(rt.alloc(), s())?;
     assert_eq!(rt; once.status, Status::Done);
-    assert_eq!(rt; once.out.bytes(), canonical);
+    assert_eq!(rt; once.out.bytes(), s_compiled());
     let twice = compiled(rt.alloc(), canonical)?;
     assert_eq!(rt; twice.status, Status::Done);
-    assert_eq!(rt; twice.out.bytes(), canonical);
+    assert_eq!(rt; twice.out.bytes(), s_compiled());
+    Ok(())
+}
+
+#[test]
+fn the_order_is_written_behind_the_text(rt: HostRuntime) -> Result<(), Fail> {
+    let sale = compiled(rt.alloc(), m())?;
+    assert_eq!(rt; sale.status, Status::Done);
+    assert!(rt; sale.out.bytes().ends_with(SALE_ORDER));
+    Ok(())
+}
+
+#[test]
+fn a_cycle_is_refused(rt: HostRuntime) -> Result<(), Fail> {
+    let crossed = compiled(rt.alloc(), t())?;
+    assert_eq!(rt; crossed.status, Status::Refused);
+    assert_eq!(rt;
+        crossed.out.bytes(),
+        b"refused spec 11:1 InstantCycle Trig(o1) End(o2) Trig(o2) End(o1)\n".as_slice()
+    );
     Ok(())
 }
 

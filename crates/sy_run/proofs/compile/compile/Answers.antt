@@ -5,7 +5,7 @@ use Rattle.sy_run.proofs.compile.compile.Goals as goal
 
 pub returns-in-Ok : goal.returns-in-Ok
 returns-in-Ok g c = λ left faults.
-    compiled_run c.args.spec.now _ _ c.in-Ok.tree c.write_canonical.result c.in-Ok.ensures.told c.write_canonical.ensures.ends c.write_canonical.ensures.status c.write_canonical.ensures.cause
+    compiled_run c.args.spec.now _ _ c.in-Ok.plan c.write_compiled.result c.in-Ok.ensures.told c.write_compiled.ensures.ends c.write_compiled.ensures.status c.write_compiled.ensures.cause
     c.in-Ok.ensures.cause (record { left = refl; faults = refl })
 
 pub returns-in-Err : goal.returns-in-Err
