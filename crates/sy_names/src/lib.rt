@@ -5,8 +5,6 @@ mod declarations;
 mod events;
 mod paths;
 mod targets;
-#[cfg(test)]
-mod tests;
 mod unknown;
 mod uses;
 

@@ -10,8 +10,6 @@ mod phrases;
 mod positions;
 mod targets;
 mod terms;
-#[cfg(test)]
-mod tests;
 mod wrong;
 
 pub use targets::{is_act_on, is_contract_act, is_contract_kind, is_kind_of};
