@@ -1,0 +1,2 @@
+pub mod ByPoint
+pub mod Holding

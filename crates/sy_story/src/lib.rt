@@ -1,0 +1,9 @@
+//! The happenings that are held under a contract: a set of them, by their points.
+#![tactic(auto)]
+
+mod moments;
+mod story;
+#[cfg(test)]
+mod tests;
+
+pub use story::{Noted, Story, StoryFault};
