@@ -1,0 +1,3 @@
+pub mod FieldFound
+pub mod Firsts
+pub mod Places

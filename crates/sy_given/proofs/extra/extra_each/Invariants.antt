@@ -1,0 +1,6 @@
+use Rattle.std.proofs.Common.{◌≡◌, ◌++◌, flat_map, take}
+use Rattle.sy_given.specs.BoundNames.{extra}
+use Rattle.sy_given.proofs.extra.extra_each.Given as goal
+
+abbrev pub invariant-given : goal.invariant-given
+invariant-given l = l.out ≡ l.initial.out ++ flat_map (extra l.scope) (take l.given-index l.givens)
