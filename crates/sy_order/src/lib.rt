@@ -10,12 +10,11 @@ mod node;
 mod power;
 mod remedy;
 mod table;
-#[cfg(test)]
-mod tests;
 mod text;
 
 pub use evaluation::evaluation_order;
 pub use index::NodeIndex;
+pub use names::{InternalEvent, names_of};
 pub use naming_law::sound_parts_are_there;
 pub use node::Node;
 pub use text::node_text;

@@ -7,10 +7,11 @@ use sy_core::{Base, DateTerm, Ev, Prop, Target};
 use sy_words::Kind;
 
 /// An internal event: its kind, and what it is about.
-pub(crate) type InternalEvent = (Kind, Target);
+pub type InternalEvent = (Kind, Target);
 
-/// The internal events that a proposition names, anywhere in it.
-pub(crate) fn names_of(alloc: Global, prop: &Prop) -> Result<List<InternalEvent>, Memory>
+/// The internal events that a proposition names, anywhere in it, one for each time that it names
+/// one, from left to right.
+pub fn names_of(alloc: Global, prop: &Prop) -> Result<List<InternalEvent>, Memory>
     ensures { IfOk result (λ names. names ≡ names_of prop.now) }
 {
     let mut names = List::new(alloc);

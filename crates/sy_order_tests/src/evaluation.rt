@@ -6,12 +6,11 @@ ghost use Rattle.sy_core.specs.Soundness as sound;
 ghost use Rattle.sy_order.specs.Nodes.{nodes_by, forms_of};
 ghost use Rattle.sy_order.specs.Naming as naming;
 
-use crate::names::{InternalEvent, names_of};
-use crate::{NodeIndex, evaluation_order, node_text};
 use std::alloc::Global;
 use std::test::Fail;
 use sy_base::{List, Memory, Text, TimeUnit};
 use sy_core::{Act, Boxed, Deed, Ev, Goal, Items, Position, Prop, Target, is_obligation, is_power};
+use sy_order::{InternalEvent, NodeIndex, evaluation_order, names_of, node_text};
 use sy_strata::OrderFault;
 use sy_words::{Form, Kind, Verb};
 
