@@ -51,7 +51,7 @@ impl Literals for BadDates {
 }
 
 /// Whether a measure is finer than a unit.
-fn is_finer(measure: Measure, unit: TimeUnit) -> bool
+pub fn is_finer(measure: Measure, unit: TimeUnit) -> bool
     ensures { result ≡ measures.is_finer measure unit }
 {
     match unit {

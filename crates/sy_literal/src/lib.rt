@@ -11,7 +11,7 @@ mod numbers;
 mod tests;
 mod values;
 
-pub use calendar::calendar_fault;
+pub use calendar::{calendar_fault, is_finer};
 pub use consequents::situations_in_consequents;
 pub use limits::limits_passed;
 pub use numbers::{greatest_count, numbers_out_of_range};

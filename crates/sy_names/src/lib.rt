@@ -8,4 +8,5 @@ mod targets;
 mod unknown;
 mod uses;
 
+pub use targets::{is_contract_state, is_state_of};
 pub use unknown::unknown_names;

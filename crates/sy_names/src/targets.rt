@@ -12,7 +12,7 @@ use sy_tree::{SituationTree, TargetTree};
 use sy_words::Form;
 
 /// Whether a position of a form can be in a state.
-fn is_state_of(form: Form, state: StateOf) -> bool
+pub fn is_state_of(form: Form, state: StateOf) -> bool
     ensures { result ≡ soundness.is_state_of form state }
 {
     match state {
@@ -27,7 +27,7 @@ fn is_state_of(form: Form, state: StateOf) -> bool
 }
 
 /// Whether it is a state of the contract that may be named.
-fn is_contract_state(state: StateOf) -> bool
+pub fn is_contract_state(state: StateOf) -> bool
     ensures { result ≡ soundness.is_contract_state state }
 {
     matches!(

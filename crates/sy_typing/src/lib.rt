@@ -12,6 +12,7 @@ mod positions;
 #[cfg(test)]
 mod tests;
 
+pub use outline::{act_outline, prop_outline};
 pub use planned::Plan;
 pub use planning::plan;
-pub use positions::{act_target, event_target};
+pub use positions::{act_target, event_target, position_if};

@@ -25,8 +25,8 @@ fn one_happens(alloc: Global, events: &[InternalEvent]) -> Result<Prop, Memory>
     Ok(Prop::Any(parts))
 }
 
-/// The outline of a proposition.
-fn prop_outline(
+/// The outline of a proposition: that one of the internal events happens that it names.
+pub fn prop_outline(
     alloc: Global,
     ontology: &Ontology,
     contract: &ContractTree,
@@ -77,8 +77,9 @@ fn obligation_outline(
     })
 }
 
-/// The act of a power.
-fn act_outline(ontology: &Ontology, contract: &ContractTree, tree: &ActTree) -> Goal
+/// The goal of a power: its act. One that can't be done to its target is refused by a check; for it
+/// another stands here.
+pub fn act_outline(ontology: &Ontology, contract: &ContractTree, tree: &ActTree) -> Goal
     requires { HasFewPositions contract.now }
     ensures { result ≡ outlines.act_outline ontology.now.table contract.now tree.now }
 {

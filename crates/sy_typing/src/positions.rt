@@ -43,7 +43,12 @@ fn number_of(contract: &ContractTree, form: Form, index: usize) -> u32
 
 /// The position of a form with this number among those of its form, where it is there and passes
 /// the test.
-fn position_if(contract: &ContractTree, form: Form, index: usize, passes: bool) -> Option<Target>
+pub fn position_if(
+    contract: &ContractTree,
+    form: Form,
+    index: usize,
+    passes: bool,
+) -> Option<Target>
     requires few { HasFewPositions contract.now }
     ensures { result ≡ positions.position_if contract.now passes form index }
 {
