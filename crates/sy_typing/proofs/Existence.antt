@@ -72,7 +72,7 @@ module _ (table : Table) (contract : ContractTree) where
   abbrev powers : List Position
   powers = map (power_outline table contract) contract.powers
 
-  numbered_passes : (test : Form → Bool) (form : Form) (i : ℕ) → i < count_of contract form
+  pub numbered_passes : (test : Form → Bool) (form : Form) (i : ℕ) → i < count_of contract form
       → form_passes test (slice_get (position_outlines table contract) (number_of contract form i)) ≡ test form
   numbered_passes test Form.Obligation i lt =
       let within : i < length obligations = subst (λ n. i < n) (sym (length-map contract.obligations (obligation_outline table contract Form.Obligation))) lt in
@@ -109,7 +109,7 @@ names_mapped (event ∷ events) =
     (ap names_of (sym (rolls-Happens (Inner event.0 event.1))) ∙ fold-roll-Prop (List InternalEvent) names_step (P.Happens (Inner event.0 event.1)))
     ∙ ap (λ l. event ∷ l) (names_mapped events)
 
-names_of_one : (events : List InternalEvent) → names_of (one_happens events) ≡ events
+pub names_of_one : (events : List InternalEvent) → names_of (one_happens events) ≡ events
 names_of_one events =
     ap names_of (sym (rolls-Any (map happens events)))
     ∙ fold-roll-Prop (List InternalEvent) names_step (P.Any (map happens events))
