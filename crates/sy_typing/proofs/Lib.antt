@@ -1,4 +1,4 @@
-mod Existence
+pub mod Existence
 mod Few
 mod FirstFault
 mod Kept
