@@ -1,6 +1,6 @@
 pub mod EachValue
+pub mod Found
 pub mod Naming
 pub mod Chain
-pub mod ChainTurn
-pub mod Climbs
-pub mod Ups
+pub mod Ended
+pub mod Marked

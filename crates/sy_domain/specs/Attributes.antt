@@ -9,7 +9,8 @@ use Rattle.sy_spec.specs.declared.contract.DeclTree.{DeclTree}
 use Rattle.sy_domain.specs.declared.failure.Failure.{Failure}
 use Rattle.sy_domain.specs.Failures.{unless}
 use Rattle.sy_domain.specs.Names.{Table, same, repeats}
-use Rattle.sy_domain.specs.Chains.{Bases, above, base_number}
+use Rattle.sy_chains.specs.Chains.{Bases, above}
+use Rattle.sy_domain.specs.Chains.{base_number}
 
 -- a type's own attributes
 abbrev pub own : TypeTree → List AttrTree

@@ -1,6 +1,7 @@
--- The isA chains of types, by the types' numbers in the order of the text.
-use Rattle.std.specs.Prelude.{ℕ, zero, suc, Bool, not, nat_eq, List, [], ◌∷◌, length, map, slice_get, Option, Some, None, option_and_then}
-use Rattle.std.specs.List.{flat_map, enumerate_from, list_any}
+-- The bases of types, by the types' numbers in the order of the text, and the types whose isA chains reach themselves.
+use Rattle.std.specs.Prelude.{ℕ, not, List, map, Option, Some, None}
+use Rattle.std.specs.List.{flat_map, enumerate_from}
+use Rattle.sy_chains.specs.Chains.{Bases, is_cyclic}
 use Rattle.sy_lex.specs.declared.written.Written.{Written}
 use Rattle.sy_spec.specs.declared.domain.TypeTree.{TypeTree}
 use Rattle.sy_spec.specs.declared.domain.TypeTree.TheVariants as AType
@@ -27,27 +28,6 @@ base_named table _ = None
 abbrev pub base_number : Table → TypeTree → Option ℕ
 base_number table (AType.Enumeration name e) = None
 base_number table (AType.Derived name base attributes) = base_named table base
-
--- the base of each type, by the type's number: none for an enumeration, a role, an asset and an event
-abbrev pub Bases : Type 0
-Bases = List (Option ℕ)
-
-abbrev pub base_at : Bases → ℕ → Option ℕ
-base_at bases n = option_and_then (λ base. base) (slice_get bases n)
-
--- the types from one on, each the base of the one before, so many at most
-abbrev pub chain : Bases → ℕ → Option ℕ → List ℕ
-chain bases zero at = []
-chain bases (suc most) None = []
-chain bases (suc most) (Some n) = n ∷ chain bases most (base_at bases n)
-
--- the isA chain above a type, from its base on. It has at most as many types as there are, unless it reaches one twice
-abbrev pub above : Bases → ℕ → List ℕ
-above bases n = chain bases (length bases) (base_at bases n)
-
--- the type's chain reaches the type itself
-abbrev pub is_cyclic : Bases → ℕ → Bool
-is_cyclic bases n = list_any (nat_eq n) (above bases n)
 
 abbrev pub type_name : TypeTree → Written
 type_name (AType.Enumeration name e) = name

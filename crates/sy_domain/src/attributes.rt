@@ -3,15 +3,16 @@ ghost use Rattle.std.specs.List.{flat_map, enumerate_from, list_any};
 ghost use Rattle.sy_domain.specs.Attributes as attributes;
 ghost use Rattle.sy_domain.specs.Attributes.{clash, clashes, clashing, given_twice};
 
-use crate::chains::{all_bases, chain_above};
+use crate::chains::all_bases;
 use crate::failure::fail_unless;
 use crate::names::repeat_into;
 use crate::{Failure, Names};
 use std::alloc::Global;
 use sy_base::{List, Memory, Text};
+use sy_chains::chain_above;
 use sy_spec::{AttrTree, DeclTree, SpecTree, TypeTree};
 
-fn own(tree: &TypeTree) -> &[AttrTree]
+pub(crate) fn own(tree: &TypeTree) -> &[AttrTree]
     ensures { result.now ≡ attributes.own tree.now }
 {
     match tree {
@@ -20,7 +21,7 @@ fn own(tree: &TypeTree) -> &[AttrTree]
     }
 }
 
-pub(crate) fn own_at(types: &[TypeTree], number: usize) -> &[AttrTree]
+fn own_at(types: &[TypeTree], number: usize) -> &[AttrTree]
     ensures { result.now ≡ attributes.own_at types.now number }
 {
     match types.get(number) {

@@ -1,14 +1,14 @@
-ghost use Rattle.std.specs.Prelude.{◌≡◌, ◌++◌, nat_eq, map, get_or, is_some, None, OnOk, IfOk};
-ghost use Rattle.std.specs.List.{flat_map, enumerate_from, list_any};
+ghost use Rattle.std.specs.Prelude.{◌≡◌, ◌++◌, map, get_or, is_some, None, OnOk, IfOk};
+ghost use Rattle.std.specs.List.{flat_map, enumerate_from};
 ghost use Rattle.sy_domain.specs.Chains as chains;
-ghost use Rattle.sy_domain.specs.Chains.{above, base_number, cyclic_types};
-ghost use Rattle.sy_domain.specs.Machine.Walks.{marked_name};
+ghost use Rattle.sy_domain.specs.Chains.{base_number, cyclic_types};
+ghost use Rattle.sy_domain.specs.Machine.Marked.{marked_name};
 
 use crate::failure::fail_unless;
-use crate::walks::find_cycles;
 use crate::{Failure, Meaning, Names, Sort};
 use std::alloc::Global;
 use sy_base::{List, Memory};
+use sy_chains::find_cycles;
 use sy_lex::Written;
 use sy_spec::{BaseTree, SpecTree, TypeTree};
 
@@ -38,56 +38,6 @@ pub(crate) fn all_bases(
         bases.push(base_of(names, tree))?;
     }
     Ok(bases)
-}
-
-pub(crate) fn base_at(bases: &[Option<usize>], number: usize) -> Option<usize>
-    ensures { result ≡ chains.base_at bases.now number }
-{
-    match bases.get(number) {
-        Some(base) => *base,
-        None => None,
-    }
-}
-
-/// The isA chain above a type.
-pub(crate) fn chain_above(
-    alloc: Global,
-    bases: &[Option<usize>],
-    number: usize,
-) -> Result<List<usize>, Memory>
-    ensures { IfOk result (λ l. l ≡ above bases.now number) }
-{
-    let mut out = List::new(alloc);
-    let mut at = base_at(bases, number);
-    'steps: for k in 0..bases.len() {
-        match at {
-            None => return Ok(out),
-            Some(reached) => {
-                out.push(reached)?;
-                at = base_at(bases, reached);
-            }
-        }
-    }
-    Ok(out)
-}
-
-/// Whether a type stands on the isA chain above another.
-pub(crate) fn is_above(bases: &[Option<usize>], from: usize, to: usize) -> bool
-    ensures { result ≡ list_any (nat_eq to) (above bases.now from) }
-{
-    let mut at = base_at(bases, from);
-    'steps: for k in 0..bases.len() {
-        match at {
-            None => return false,
-            Some(reached) => {
-                if to == reached {
-                    return true;
-                }
-                at = base_at(bases, reached);
-            }
-        }
-    }
-    false
 }
 
 fn type_name(tree: &TypeTree) -> &Written

@@ -10,7 +10,6 @@ mod members;
 mod names;
 mod type_names;
 mod types;
-mod walks;
 
 pub use checks::ontology;
 pub use failure::{Failure, fail_unless, first, refusal};

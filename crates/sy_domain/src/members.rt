@@ -1,15 +1,16 @@
-ghost use Rattle.std.specs.Prelude.{◌≡◌, map, fold, reverse, slice_get, OnOk, IfOk};
-ghost use Rattle.sy_spec.specs.declared.domain.TypeTree.{TypeTree as AType};
+ghost use Rattle.std.specs.Prelude.{◌≡◌, ◌++◌, map, fold, length, option_and_then, slice_get, OnOk, IfOk};
 ghost use Rattle.std.specs.List.{enumerate_from};
+ghost use Rattle.sy_chains.specs.Chains.{NoCycle};
+ghost use Rattle.sy_domain.specs.Machine.Ended.{noted_kind};
 ghost use Rattle.sy_domain.specs.Ontologies as ontologies;
-ghost use Rattle.sy_domain.specs.Ontologies.{put, put_type};
+ghost use Rattle.sy_domain.specs.Ontologies.{put};
 
-use crate::attributes::own_at;
-use crate::chains::chain_above;
+use crate::attributes::own;
 use crate::{Meaning, Member, Names, Sort, TypeKind};
 use indexmap::IndexMap;
 use std::alloc::Global;
 use sy_base::{List, Memory, Text};
+use sy_chains::{find_ends, mark_at};
 use sy_spec::{AttrTree, BaseTree, TypeTree};
 
 /// The kind of type that a base makes.
@@ -25,44 +26,46 @@ fn kind_by(base: &BaseTree) -> Option<TypeKind>
 }
 
 /// The kind of the type at the end of a chain.
-fn end_kind(types: &[TypeTree], number: usize) -> Option<TypeKind>
-    ensures { result ≡ ontologies.end_kind (slice_get types.now number) }
+fn end_kind(types: &[TypeTree], end: Option<usize>) -> Option<TypeKind>
+    ensures { result ≡ ontologies.end_kind (option_and_then (slice_get types.now) end) }
 {
-    match types.get(number) {
-        Some(TypeTree::Derived(_, base, _)) => kind_by(base),
-        _ => None,
+    match end {
+        Some(number) => match types.get(number) {
+            Some(TypeTree::Derived(_, base, _)) => kind_by(base),
+            _ => None,
+        },
+        None => None,
     }
 }
 
-/// The kind of a type.
+/// The kind of a type, by the ends of chains.
 fn kind_of(
-    alloc: Global,
     types: &[TypeTree],
-    bases: &[Option<usize>],
+    ends: &[Option<usize>],
     number: usize,
     tree: &TypeTree,
-) -> Result<Option<TypeKind>, Memory>
-    ensures { IfOk result (λ kind. kind ≡ ontologies.kind_of types.now bases.now (number, tree.now)) }
+) -> Option<TypeKind>
+    ensures { result ≡ noted_kind types.now ends.now (number, tree.now) }
 {
     match tree {
-        TypeTree::Enumeration(_, _) => Ok(Some(TypeKind::Enumeration)),
-        TypeTree::Derived(_, _, _) => {
-            let above = chain_above(alloc, bases, number)?;
-            let end = last_or(number, above.items());
-            Ok(end_kind(types, end))
-        }
+        TypeTree::Enumeration(_, _) => Some(TypeKind::Enumeration),
+        TypeTree::Derived(_, _, _) => end_kind(types, mark_at(ends, number)),
     }
 }
 
-/// The last of the numbers, or the first one where there is no other.
-fn last_or(first: usize, others: &[usize]) -> usize
-    ensures { result ≡ ontologies.last_or first others.now }
+/// The kinds of types, by the ends of chains.
+fn kinds_by(
+    alloc: Global,
+    types: &[TypeTree],
+    ends: &[Option<usize>],
+) -> Result<List<Option<TypeKind>>, Memory>
+    ensures { IfOk result (λ kinds. kinds ≡ map (noted_kind types.now ends.now) (enumerate_from 0 types.now)) }
 {
-    let mut last = first;
-    'number: for number in others {
-        last = *number;
+    let mut kinds = List::new(alloc);
+    'tree: for (i, tree) in types.iter().enumerate() {
+        kinds.push(kind_of(types, ends, i, tree))?;
     }
-    last
+    Ok(kinds)
 }
 
 /// The kinds of all types.
@@ -71,12 +74,12 @@ pub(crate) fn all_kinds(
     types: &[TypeTree],
     bases: &[Option<usize>],
 ) -> Result<List<Option<TypeKind>>, Memory>
+    requires none { NoCycle bases.now }
+    requires same { length bases.now ≡ length types.now }
     ensures { IfOk result (λ kinds. kinds ≡ map (ontologies.kind_of types.now bases.now) (enumerate_from 0 types.now)) }
 {
-    let mut kinds = List::new(alloc);
-    'tree: for (i, tree) in types.iter().enumerate() {
-        kinds.push(kind_of(alloc, types, bases, i, tree)?)?;
-    }
+    let ends = find_ends(alloc, bases)?;
+    let kinds = kinds_by(alloc, types, &ends)?;
     Ok(kinds)
 }
 
@@ -115,62 +118,41 @@ fn put_all(
     Ok(())
 }
 
-/// Puts the attributes of some types into a table, the last type's first.
-fn put_types(
+/// The own members of a type by their names.
+fn own_members(
     alloc: Global,
     names: &Names,
-    types: &[TypeTree],
-    numbers: &[usize],
-    table: &mut IndexMap<Text, Member>,
-) -> Result<(), Memory>
-    ensures { OnOk result (table.new.entries ≡ fold (put_type names.now.table types.now) table.old.entries (reverse numbers.now)) }
-{
-    'number: for number in numbers.iter().rev() {
-        put_all(alloc, names, own_at(types, *number), table)?;
-    }
-    Ok(())
-}
-
-/// The members of a type, the inherited ones first.
-fn members_of(
-    alloc: Global,
-    names: &Names,
-    types: &[TypeTree],
-    bases: &[Option<usize>],
-    number: usize,
+    tree: &TypeTree,
 ) -> Result<IndexMap<Text, Member>, Memory>
-    ensures { IfOk result (λ m. (tree : AType) → m.entries ≡ ontologies.members_of names.now.table types.now bases.now (number, tree)) }
+    ensures { IfOk result (λ m. m.entries ≡ ontologies.own_members names.now.table tree.now) }
 {
-    let above = chain_above(alloc, bases, number)?;
     let mut table = IndexMap::new(alloc);
-    put_types(alloc, names, types, above.items(), &mut table)?;
-    put_all(alloc, names, own_at(types, number), &mut table)?;
+    put_all(alloc, names, own(tree), &mut table)?;
     Ok(table)
 }
 
-/// How many members all types may have together, the inherited ones counted with each type that has
-/// them. Each takes some 100 bytes.
-const MOST_MEMBERS: usize = 16_000_000;
-
-/// The members of all types. Where they are too many to be held, the answer is want of memory.
-pub(crate) fn all_members(
+/// The own members of all types.
+pub(crate) fn all_owned(
     alloc: Global,
     names: &Names,
     types: &[TypeTree],
-    bases: &[Option<usize>],
 ) -> Result<Vec<IndexMap<Text, Member>>, Memory>
     ensures { IfOk result (λ v. map (λ m. m.entries) v.items
-        ≡ map (ontologies.members_of names.now.table types.now bases.now) (enumerate_from 0 types.now)) }
+        ≡ map (ontologies.own_members names.now.table) types.now) }
 {
     let mut tables = Vec::new(alloc);
-    let mut entries: usize = 0;
-    'tree: for (i, _) in types.iter().enumerate() {
-        let table = members_of(alloc, names, types, bases, i)?;
-        entries = entries.saturating_add(table.len());
-        if entries > MOST_MEMBERS {
-            return Err(Memory);
-        }
-        tables.push(table)?;
+    'tree: for tree in types {
+        tables.push(own_members(alloc, names, tree)?)?;
     }
     Ok(tables)
+}
+
+/// Puts names behind other names.
+pub(crate) fn copy_names(alloc: Global, names: &[Text], out: &mut List<Text>) -> Result<(), Memory>
+    ensures { OnOk result (out.new ≡ out.old ++ names.now) }
+{
+    'name: for name in names {
+        out.push(name.copy(alloc)?)?;
+    }
+    Ok(())
 }

@@ -7,24 +7,21 @@ ghost use Rattle.sy_given.specs.Givens.{gives_field, given_to};
 
 use crate::named::{first_named, first_places};
 use crate::repeats::fields_of;
-use indexmap::IndexMap;
 use std::alloc::Global;
-use sy_base::{Memory, Text};
+use sy_base::{List, Memory, Text};
 use sy_binding::{BindTree, FieldTree, GivenTree};
 use sy_domain::{Failure, Sort};
 use sy_scope::Scope;
 use sy_spec::{ParamTree, SpecTree};
 
 /// The names of the attributes of a parameter, the inherited ones first.
-fn attributes_of<'a>(scope: &'a Scope, parameter: &ParamTree) -> &'a [Text]
-    ensures { result.now ≡ attribute_names scope.now parameter.now }
+fn attributes_of(alloc: Global, scope: &Scope, parameter: &ParamTree) -> Result<List<Text>, Memory>
+    ensures { IfOk result (λ attributes. attributes ≡ attribute_names scope.now parameter.now) }
 {
-    match scope.ontology().sort(&parameter.type_name.text) {
-        Sort::Declared(number) => match scope.ontology().members(number) {
-            Some(members) => members.keys().as_slice(),
-            None => &[],
-        },
-        _ => &[],
+    let ontology = scope.ontology();
+    match ontology.sort(&parameter.type_name.text) {
+        Sort::Declared(number) => ontology.member_names(alloc, number),
+        _ => Ok(List::new(alloc)),
     }
 }
 
@@ -86,8 +83,8 @@ fn missing_in(
     let name = &parameter.name.text;
     match given {
         Some(given) => {
-            let attributes = attributes_of(scope, parameter);
-            first_attribute(alloc, name, fields_of(&given.bound), attributes)
+            let attributes = attributes_of(alloc, scope, parameter)?;
+            first_attribute(alloc, name, fields_of(&given.bound), attributes.items())
         }
         None => Ok(Some(absent(alloc, name)?)),
     }

@@ -1,7 +1,7 @@
 ghost use Rattle.std.specs.Prelude.{◌≡◌, ℕ, List, ◌++◌, OnOk, IfOk};
 ghost use Rattle.std.specs.List.{flat_map, list_any, list_all, enumerate_from};
 ghost use Rattle.sy_domain.specs.Names.{same};
-ghost use Rattle.sy_domain.specs.Ontologies.{members_in};
+ghost use Rattle.sy_domain.specs.Ontologies.{members_in, owned_at};
 ghost use Rattle.sy_types.specs.Declarations as declarations;
 
 use crate::attributes::{is_role_or_asset, type_sort};
@@ -10,7 +10,7 @@ use crate::terms::check_rhs;
 use indexmap::IndexSet;
 use std::alloc::Global;
 use sy_base::{List, Memory, Text};
-use sy_domain::{Failure, Sort, TypeKind, fail_unless};
+use sy_domain::{Failure, Ontology, Sort, TypeKind, fail_unless};
 use sy_scope::{Scope, rhs_sort};
 use sy_spec::{DeclTree, GiveTree, ParamTree};
 
@@ -115,19 +115,26 @@ fn given_names(alloc: Global, gives: &[GiveTree]) -> Result<IndexSet<Text>, Memo
     Ok(names)
 }
 
-/// Whether each attribute of the things of a sort is among the names, or is an Env one.
-fn are_named(scope: &Scope, sort: Sort, names: &IndexSet<Text>) -> bool
-    ensures { result ≡ list_all (declarations.is_among names.now.keys) (members_in scope.now.domain sort) }
+/// Whether each own attribute of a type is among the names, or is an Env one.
+fn are_own_named(ontology: &Ontology, number: usize, names: &IndexSet<Text>) -> bool
+    ensures { result ≡ list_all (declarations.is_among names.now.keys) (owned_at ontology.now number) }
 {
-    let Sort::Declared(number) = sort else {
-        return true;
-    };
-    match scope.ontology().members(number) {
+    match ontology.own_members(number) {
         Some(members) => members
             .iter()
             .all(|(name, member)| member.env || names.contains(name)),
         None => true,
     }
+}
+
+/// Whether each own attribute of some types is.
+fn are_all_named(ontology: &Ontology, numbers: &[usize], names: &IndexSet<Text>) -> bool
+    ensures { result ≡ list_all
+        (λ n. list_all (declarations.is_among names.now.keys) (owned_at ontology.now n)) numbers.now }
+{
+    numbers
+        .iter()
+        .all(|number| are_own_named(ontology, *number, names))
 }
 
 /// Whether a declaration of a sort gives all that it has to.
@@ -136,7 +143,15 @@ fn gives_all(alloc: Global, scope: &Scope, sort: Sort, gives: &[GiveTree]) -> Re
         ≡ list_all (declarations.is_among (declarations.given_names gives.now)) (members_in scope.now.domain sort)) }
 {
     let names = given_names(alloc, gives)?;
-    Ok(are_named(scope, sort, &names))
+    let ontology = scope.ontology();
+    match sort {
+        Sort::Declared(number) if are_own_named(ontology, number, &names) => {
+            let above = ontology.above(alloc, number)?;
+            Ok(are_all_named(ontology, above.items(), &names))
+        }
+        Sort::Declared(_) => Ok(false),
+        _ => Ok(true),
+    }
 }
 
 fn check_declaration(

@@ -1,4 +1,4 @@
-use Rattle.sy_domain.specs.Machine.Walks.{marked_name}
+use Rattle.sy_domain.specs.Machine.Marked.{marked_name}
 use Rattle.sy_base.proofs.Numbered.{flat_map_turn}
 use Rattle.sy_domain.proofs.chains.check_all.Goals as goal
 

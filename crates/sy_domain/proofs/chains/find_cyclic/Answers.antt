@@ -2,8 +2,8 @@ use Rattle.std.proofs.Common.{◌≡◌, ◌∙◌, ◌++◌, length, map, flat_
 use Rattle.std.specs.List.{enumerate_from}
 use Rattle.std.proofs.lemmas.List.{length-map}
 use Rattle.sy_domain.specs.Chains.{base_number, cyclic_name}
-use Rattle.sy_domain.specs.Machine.Walks.{marked_name}
-use Rattle.sy_domain.proofs.Climbs.{marked_are_cyclic}
+use Rattle.sy_domain.specs.Machine.Marked.{marked_name}
+use Rattle.sy_domain.proofs.Marked.{marked_are_cyclic}
 use Rattle.sy_domain.proofs.chains.find_cyclic.Goals as goal
 
 pub returns : goal.returns

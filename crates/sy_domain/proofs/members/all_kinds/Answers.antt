@@ -1,9 +1,12 @@
-use Rattle.sy_domain.specs.Ontologies.{kind_of}
-use Rattle.sy_domain.proofs.EachValue.{value_turn}
+use Rattle.std.proofs.Common.{◌≡◌, ◌∙◌, ap, map}
+use Rattle.std.specs.List.{enumerate_from}
+use Rattle.sy_domain.specs.Machine.Ended.{noted_kind}
+use Rattle.sy_domain.proofs.Ended.{noted_are_kinds}
 use Rattle.sy_domain.proofs.members.all_kinds.Goals as goal
 
-pub tree-preserved : goal.tree-preserved
-tree-preserved c =
-    value_turn (kind_of c.args.types.now c.args.bases.now) c.tree.kinds c.push.new.self c.in_ok-kind_of.field-0
-    c.args.types.now c.tree.i c.index-types-i.result c.tree-test.true c.index-types-i.is c.tree.invariant
-    c.in_ok-push.ensures.ok c.in_ok-kind_of.ensures
+pub returns : goal.returns
+returns c =
+    let types = c.args.types.now in
+    c.in_ok-kinds.ensures
+    ∙ ap (λ ends. map (noted_kind types ends) (enumerate_from 0 types)) c.deref.ensures.value
+    ∙ noted_are_kinds c.args.bases.now c.in_ok-ends.ends.items types c.requires.same c.in_ok-ends.ensures

@@ -1,0 +1,4 @@
+pub mod ChainTurn
+pub mod Climbs
+pub mod Noted
+pub mod Ups

@@ -1,5 +1,0 @@
-use Rattle.sy_domain.specs.Machine.Walks.{AreWalked}
-use Rattle.sy_domain.proofs.walks.find_cycles.Given as goal
-
-abbrev pub invariant-walks : goal.invariant-walks
-invariant-walks l = AreWalked l.bases l.from l.marks.items l.cyclic.items
