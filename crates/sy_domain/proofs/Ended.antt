@@ -120,9 +120,13 @@ no_cycle_in table types empty n =
       | inr past ↦ none_past bases n (let same : length bases ≡ length types = length-map types (base_number table) in omega arith)
     ]
 
--- no chain reaches its own type, where the checks pass
+-- no chain reaches its own type, where the check of chains passes
+pub no_cycle_then : (spec : SpecTree) → refusal_of (chains_end spec) ≡ None
+    → NoCycle (map (base_number (all_names spec).table) spec.domain.types)
+no_cycle_then spec passed = no_cycle_in (all_names spec).table spec.domain.types (passes_empty (chains_end spec) passed)
+
+-- nor where all checks pass
 pub no_cycle : (spec : SpecTree) → fault_of (domain_checks spec) ≡ None
     → NoCycle (map (base_number (all_names spec).table) spec.domain.types)
 no_cycle spec passed =
-    no_cycle_in (all_names spec).table spec.domain.types
-    (passes_empty (chains_end spec) (third_passes (names_apart spec) (types_known spec) (chains_end spec) (attributes_apart spec) passed))
+    no_cycle_then spec (third_passes (names_apart spec) (types_known spec) (chains_end spec) (attributes_apart spec) passed)

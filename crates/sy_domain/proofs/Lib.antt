@@ -1,5 +1,6 @@
 pub mod EachValue
 pub mod Found
+pub mod Owned
 pub mod Naming
 pub mod Chain
 pub mod Ended

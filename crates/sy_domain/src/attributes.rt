@@ -1,5 +1,9 @@
-ghost use Rattle.std.specs.Prelude.{◌≡◌, ◌++◌, length, OnOk, IfOk};
-ghost use Rattle.std.specs.List.{flat_map, enumerate_from, list_any};
+ghost use Rattle.std.specs.Prelude.{◌≡◌, ◌++◌, fold, map, OnOk, IfOk};
+ghost use Rattle.std.specs.List.{flat_map, enumerate_from, list_all, list_any};
+ghost use Rattle.sy_chains.specs.Chains.{NoCycle};
+ghost use Rattle.sy_domain.specs.Chains.{base_number};
+ghost use Rattle.sy_domain.specs.Machine.Owners as owning;
+ghost use Rattle.sy_domain.specs.Machine.Owners.{owners_of};
 ghost use Rattle.sy_domain.specs.Attributes as attributes;
 ghost use Rattle.sy_domain.specs.Attributes.{clash, clashes, clashing, given_twice};
 
@@ -7,6 +11,7 @@ use crate::chains::all_bases;
 use crate::failure::fail_unless;
 use crate::names::repeat_into;
 use crate::{Failure, Names};
+use indexmap::IndexMap;
 use std::alloc::Global;
 use sy_base::{List, Memory, Text};
 use sy_chains::chain_above;
@@ -62,18 +67,82 @@ fn check_own(
     Ok(())
 }
 
+/// The only type that owns a name, once one more type does. None where several do.
+fn owner_with(owner: Option<Option<usize>>, number: usize) -> Option<usize>
+    ensures { result ≡ owning.owner_with owner number }
+{
+    match owner {
+        Some(Some(other)) if other == number => Some(number),
+        Some(_) => None,
+        None => Some(number),
+    }
+}
+
+/// Adds a type that has some attributes to the owners of their names.
+fn add_owner(
+    alloc: Global,
+    number: usize,
+    own: &[AttrTree],
+    owners: &mut IndexMap<Text, Option<usize>>,
+) -> Result<(), Memory>
+    ensures { OnOk result (owners.new.entries ≡ fold (owning.add_owner number) owners.old.entries own.now) }
+{
+    'attribute: for attribute in own {
+        let name = &attribute.name.text;
+        let owner = owner_with(owners.get(name).copied(), number);
+        owners.insert(name.copy(alloc)?, owner)?;
+    }
+    Ok(())
+}
+
+/// The only type that owns each name of an attribute, or none where several do.
+fn all_owners(alloc: Global, types: &[TypeTree]) -> Result<IndexMap<Text, Option<usize>>, Memory>
+    ensures { IfOk result (λ owners. owners.entries ≡ owners_of types.now) }
+{
+    let mut owners = IndexMap::new(alloc);
+    'tree: for (i, tree) in types.iter().enumerate() {
+        add_owner(alloc, i, own(tree), &mut owners)?;
+    }
+    Ok(owners)
+}
+
+/// Whether a type alone owns an attribute's name.
+fn is_only(owners: &IndexMap<Text, Option<usize>>, number: usize, attribute: &AttrTree) -> bool
+    ensures { result ≡ owning.is_only owners.now.entries number attribute.now }
+{
+    match owners.get(&attribute.name.text).copied() {
+        Some(Some(owner)) => owner == number,
+        _ => false,
+    }
+}
+
+/// Whether it does with each of some attributes.
+fn are_only(owners: &IndexMap<Text, Option<usize>>, number: usize, own: &[AttrTree]) -> bool
+    ensures { result ≡ list_all (owning.is_only owners.now.entries number) own.now }
+{
+    own.iter()
+        .all(|attribute| is_only(owners, number, attribute))
+}
+
 fn check_type(
     alloc: Global,
     types: &[TypeTree],
     bases: &[Option<usize>],
+    owners: &IndexMap<Text, Option<usize>>,
     number: usize,
     tree: &TypeTree,
     out: &mut List<Failure>,
 ) -> Result<(), Memory>
+    requires none { NoCycle bases.now }
+    requires owners { owners.now.entries ≡ owners_of types.now }
     ensures { OnOk result (out.new ≡ out.old ++ clashes types.now bases.now (number, tree.now)) }
 {
+    let own = own(tree);
+    if are_only(owners, number, own) {
+        return Ok(());
+    }
     let above = chain_above(alloc, bases, number)?;
-    check_own(alloc, types, above.items(), own(tree), out)
+    check_own(alloc, types, above.items(), own, out)
 }
 
 fn check_types(
@@ -82,10 +151,12 @@ fn check_types(
     bases: &[Option<usize>],
     out: &mut List<Failure>,
 ) -> Result<(), Memory>
+    requires { NoCycle bases.now }
     ensures { OnOk result (out.new ≡ out.old ++ flat_map (clashes types.now bases.now) (enumerate_from 0 types.now)) }
 {
+    let owners = all_owners(alloc, types)?;
     'tree: for (i, tree) in types.iter().enumerate() {
-        check_type(alloc, types, bases, i, tree, out)?;
+        check_type(alloc, types, bases, &owners, i, tree, out)?;
     }
     Ok(())
 }
@@ -105,6 +176,7 @@ pub(crate) fn find_clashing(
     names: &Names,
     tree: &SpecTree,
 ) -> Result<List<Failure>, Memory>
+    requires { NoCycle (map (base_number names.now.table) tree.now.domain.types) }
     ensures { IfOk result (λ found. found ≡ clashing names.now.table tree.now) }
 {
     let types = tree.domain.types.items();

@@ -1,4 +1,6 @@
-ghost use Rattle.std.specs.Prelude.{◌≡◌, IfOk};
+ghost use Rattle.std.specs.Prelude.{◌≡◌, map, IfOk};
+ghost use Rattle.sy_chains.specs.Chains.{NoCycle};
+ghost use Rattle.sy_domain.specs.Chains.{base_number};
 ghost use Rattle.sy_domain.specs.Checks.{names_apart, types_known, chains_end, attributes_apart, domain_checks};
 ghost use Rattle.sy_domain.specs.Failures.{Answers, fault_of, refusal_of};
 ghost use Rattle.sy_domain.specs.Names.{all_names};
@@ -50,7 +52,8 @@ fn cyclic(alloc: Global, names: &Names, tree: &SpecTree) -> Result<Option<Refusa
 
 /// Sees that no attribute has an inherited one's name, and none is given twice.
 fn clashes(alloc: Global, names: &Names, tree: &SpecTree) -> Result<Option<Refusal>, Memory>
-    requires { names.now ≡ all_names tree.now }
+    requires names { names.now ≡ all_names tree.now }
+    requires none { NoCycle (map (base_number (all_names tree.now).table) tree.now.domain.types) }
     ensures { IfOk result (λ r. r ≡ refusal_of (attributes_apart tree.now)) }
 {
     let clashing = find_clashing(alloc, names, tree)?;

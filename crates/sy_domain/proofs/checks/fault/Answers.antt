@@ -1,7 +1,11 @@
-use Rattle.std.proofs.Common.{◌≡◌, [], ◌∷◌}
+use Rattle.std.proofs.Common.{◌≡◌, [], ◌∷◌, sym, ◌∙◌}
 use Rattle.sy_domain.specs.Checks.{names_apart, types_known, chains_end, attributes_apart}
 use Rattle.sy_domain.proofs.Chain.{stops, passes, none_fails}
+use Rattle.sy_domain.proofs.Ended.{no_cycle_then}
 use Rattle.sy_domain.proofs.checks.fault.Goals as goal
+
+pub clashes-requires-clause-none : goal.clashes-requires-clause-none
+clashes-requires-clause-none c = no_cycle_then c.args.tree.now (sym c.in_ok-fault-3.ensures ∙ c.in-None-3.is)
 
 pub returns-in-Some : goal.returns-in-Some
 returns-in-Some c =
