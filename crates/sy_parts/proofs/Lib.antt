@@ -1,0 +1,3 @@
+pub mod BareNames
+pub mod BareOrder
+pub mod Counting

@@ -1,0 +1,12 @@
+//! What the parts of a deed come to.
+#![tactic(auto)]
+
+mod counts;
+mod limits_law;
+mod order_law;
+#[cfg(test)]
+mod tests;
+
+pub use counts::has_few_parts;
+pub use limits_law::few_parts_keep_limits;
+pub use order_law::bare_positions_give_order;
