@@ -43,7 +43,7 @@ value_begins =
     begins_or (begins_or (begins_or (begins_or (begins_or (begins_or (begins_as (begins_then (token_begins S.Number)) refl) (begins_as (begins_then (sign_begins Minus)) refl)) (begins_as (begins_then (token_begins S.Str)) refl))
     (begins_as (begins_then (token_begins S.Date)) refl)) (begins_as (begins_then (keyword_begins K.True)) refl)) (begins_as (begins_then (keyword_begins K.False)) refl)) (begins_as (begins_then (token_begins S.Word)) refl)
 
-field_agrees : Agrees field field_at Any
+pub field_agrees : Agrees field field_at Any
 unfolding field_at
 field_agrees = then_any (before_any Assign (token_agrees S.Word)) λ name. node_agrees (λ value. record { name = name; value = value }) value_agrees
 

@@ -1,0 +1,6 @@
+pub mod Entries
+pub mod EntryText
+pub mod Happenings
+pub mod Lines
+pub mod Machine
+pub mod Values
