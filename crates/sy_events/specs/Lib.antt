@@ -1,0 +1,5 @@
+pub mod Declarations
+pub mod Enumerations
+pub mod Events
+pub mod Machine
+pub mod Numbers
