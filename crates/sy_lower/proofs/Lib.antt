@@ -1,0 +1,5 @@
+pub mod Counted
+mod Gathering
+pub mod Named
+pub mod Optional
+pub mod Sound
