@@ -1,0 +1,6 @@
+mod Accepted
+mod Apart
+mod Faults
+mod Ordered
+mod SoundDeed
+mod Whole
