@@ -1,65 +1,12 @@
 ghost use Rattle.std.specs.Prelude.{◌<◌, ◌^◌, length};
 
+use crate::told::{BASE, Row, line_of, specification_of, wanted};
 use std::alloc::{AllocError, Global};
 use std::test::Fail;
-use sy_base::{FileKind, Refused, Text};
+use sy_base::{FileKind, Text};
 use sy_lex::tokens;
-use sy_report::refusal_text;
 use sy_spec::spec;
 use sy_typing::plan;
-
-/// A specification by the parts in which rows differ, and what its refusal says behind `spec`;
-/// nothing where it is accepted.
-#[derive(Clone, Copy)]
-struct Row {
-    /// Line 4, behind a role `Z` and an event `E` with the `Env` attribute `n: Number`.
-    types: &'static str,
-    /// The parameters, from column 12 of line 6 on.
-    parameters: &'static str,
-    /// The unit's word.
-    unit: &'static str,
-    /// Line 9, behind the parties `a` and `b` and the event `e`.
-    declarations: &'static str,
-    /// Line 10.
-    sections: &'static str,
-    told: &'static str,
-}
-
-const BASE: Row = Row {
-    types: "",
-    parameters: "",
-    unit: "Day",
-    declarations: "",
-    sections: "",
-    told: "",
-};
-
-/// The text of a row.
-fn text_of(alloc: Global, row: &Row) -> Result<String, AllocError> {
-    format!(in alloc;
-        "Domain d
-Z isA Role;
-E isAn Event with Env n: Number;
-{}
-endDomain
-Contract C({}) unit {}
-Declarations
-a: Z; b: Z; e: E;
-{}
-{}
-endContract
-",
-        row.types, row.parameters, row.unit, row.declarations, row.sections
-    )
-}
-
-/// The line of a refusal.
-fn line_of(alloc: Global, why: &Refused) -> Result<Text, Fail> {
-    match why {
-        Refused::Refusal(refusal) => Ok(refusal_text(alloc, refusal)?),
-        Refused::Memory => Err(Fail::from("memory")),
-    }
-}
 
 /// What the checks of a specification say: the line of its refusal, or nothing.
 fn told(alloc: Global, source: &[u8]) -> Result<Text, Fail>
@@ -76,15 +23,12 @@ fn told(alloc: Global, source: &[u8]) -> Result<Text, Fail>
 /// Whether each row is told what stands in it.
 fn are_told(alloc: Global, rows: &[Row]) -> Result<(), Fail> {
     for row in rows {
-        let source = text_of(alloc, row)?;
+        let source = specification_of(alloc, row)?;
         if source.len() > 2000 {
             return Err(Fail::from("a long row"));
         }
         let told = told(alloc, source.as_bytes())?;
-        let wanted = match row.told {
-            "" => String::new(alloc),
-            words => format!(in alloc; "refused spec {words}\n")?,
-        };
+        let wanted = wanted(alloc, "refused spec", row.told)?;
         if told.bytes() != wanted.as_bytes() {
             return Err(Fail::from(source));
         }

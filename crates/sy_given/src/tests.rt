@@ -1,7 +1,7 @@
-use crate::{binding_fault, bound_values};
+use crate::{Known, binding_fault, bound_values};
 use std::alloc::Global;
 use std::test::Fail;
-use sy_base::FileKind;
+use sy_base::{FileKind, Text};
 use sy_binding::{BindTree, binding};
 use sy_domain::ontology;
 use sy_lex::tokens;
@@ -58,5 +58,16 @@ fn binds_each_parameter(rt: HostRuntime) -> Result<(), Fail> {
     let tree = bound(alloc)?;
     let values = bound_values(alloc, &scope, &sale, &tree)?;
     assert_eq!(rt; values.items().len(), 5);
+    Ok(())
+}
+
+#[test]
+fn copies_a_text(rt: HostRuntime) -> Result<(), Fail> {
+    let alloc = rt.alloc();
+    let known = Known::Text(Text::new(alloc, b"Farm")?);
+    let Known::Text(copy) = known.copy(alloc)? else {
+        return Err(Fail::from("another value"));
+    };
+    assert!(rt; copy.bytes() == b"Farm".as_slice());
     Ok(())
 }
