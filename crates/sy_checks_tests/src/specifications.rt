@@ -3,10 +3,10 @@ ghost use Rattle.std.specs.Prelude.{◌<◌, ◌^◌, length};
 use crate::told::{BASE, Row, line_of, specification_of, wanted};
 use std::alloc::{AllocError, Global};
 use std::test::Fail;
-use sy_base::{FileKind, Text};
+use sy_base::{FileKind, Memory, Text};
 use sy_lex::tokens;
 use sy_spec::spec;
-use sy_typing::plan;
+use sy_typing::{Plan, plan};
 
 /// What the checks of a specification say: the line of its refusal, or nothing.
 fn told(alloc: Global, source: &[u8]) -> Result<Text, Fail>
@@ -634,5 +634,36 @@ fn counts_up_to_the_limits(rt: HostRuntime) -> Result<(), Fail> {
         let told = told(alloc, source.as_bytes())?;
         assert!(rt; told.bytes() == wanted.as_bytes(), "{wanted}");
     }
+    Ok(())
+}
+
+/// The text of the first node of a plan.
+fn first_node(alloc: Global, plan: &Plan) -> Result<Text, Memory> {
+    plan.node_text(alloc, 0)
+}
+
+/// The text of the first node of a specification, or the line of its refusal.
+fn first_node_of(alloc: Global, source: &[u8]) -> Result<Text, Fail>
+    requires { length source.now < 2 ^ 32 }
+{
+    let tokens = tokens(alloc, FileKind::Spec, source)?;
+    let tree = spec(alloc, source, tokens.items())?;
+    match plan(alloc, tree) {
+        Ok(plan) => Ok(first_node(alloc, &plan)?),
+        Err(why) => line_of(alloc, &why),
+    }
+}
+
+#[test]
+fn tells_the_text_of_a_node(rt: HostRuntime) -> Result<(), Fail> {
+    let alloc = rt.alloc();
+    let row = Row {
+        sections: "Obligations o: O(a, b, true, happens(e));",
+        ..BASE
+    };
+    let source = specification_of(alloc, &row)?;
+    assert!(rt; source.len() < 2000);
+    let text = first_node_of(alloc, source.as_bytes())?;
+    assert_eq!(rt; text.bytes(), b"Trig(o)".as_slice());
     Ok(())
 }
