@@ -70,6 +70,9 @@ module _ (start : ℤ) (known : BTreeSet Happening) (happenings : List Happening
   pub isnt_held : (h : Happening) → contains cmp known h ≡ false → Contains happenings h → ⊥
   isnt_held h missing c = true≢false (sym ((keyed known h).1 ((holds.same h).1 c)) ∙ missing)
 
+  pub answers : (h : Happening) (found : Bool) → found ≡ contains cmp known h → IsTrue found ↔ Contains happenings h
+  answers h found is = (λ t. is_held h (sym is ∙ t), λ c. is ∙ (keyed known h).1 ((holds.same h).1 c))
+
   pub isnt_early : (h : Happening) → h.point <ℤ start → Contains happenings h → ⊥
   isnt_early h early c = clash_ℤ early (holds.timely h c)
 

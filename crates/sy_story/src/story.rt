@@ -1,4 +1,5 @@
 ghost use Rattle.std.specs.Prelude.{◌≡◌, ◌↔◌, [], length, IfOk, IsTrue};
+ghost use Rattle.std.specs.List.{Contains};
 ghost use Rattle.sy_story.specs.Narratives.{IsOnce, IsNextAfter, Noting, happenings_at};
 ghost use Rattle.sy_story.specs.declared.story.StoryFault.TheVariants.{Memory as Wanting};
 
@@ -104,6 +105,13 @@ impl Story {
             return Err(StoryFault::Memory);
         }
         Ok(Noted::New)
+    }
+
+    /// Whether it holds the happening.
+    pub fn holds(&self, happening: &Happening) -> bool
+        ensures { IsTrue result ↔ Contains self.now.happenings happening.now }
+    {
+        self.known.contains(happening)
     }
 
     /// The happenings at a point, each once.

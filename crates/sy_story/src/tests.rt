@@ -37,6 +37,9 @@ fn holds_each_once(rt: HostRuntime) -> Result<(), Fail> {
     assert_eq!(rt; story.note(exerted(10, 4)), Ok(Known));
     assert_eq!(rt; story.note(exerted(9, 4)), Err(TooEarly));
     assert_eq!(rt; story.len(), 4);
+    assert!(rt; story.holds(&exerted(12, 4)));
+    assert!(rt; !story.holds(&exerted(11, 4)));
+    assert!(rt; !story.holds(&exerted(12, 5)));
     assert_eq!(rt; story.at(9).len(), 0);
     assert_eq!(rt; story.at(10), [exerted(10, 4)].as_slice());
     assert_eq!(rt; story.at(12).len(), 3);
