@@ -1,0 +1,11 @@
+//! Follows one contract: it holds what happened, and gives the table as of each date by the plain
+//! evaluator.
+#![tactic(auto)]
+
+mod course;
+mod monitor;
+mod table;
+mod tables_law;
+
+pub use monitor::Monitor;
+pub use tables_law::tables_go_by_what_happens;
