@@ -9,6 +9,7 @@ use Rattle.sy_time.specs.declared.date.DateFault.TheVariants.{NoSuchDay, OutOfRa
 use Rattle.sy_time.proofs.Ranges.{IsDated-point_or_fault}
 use Rattle.sy_core.specs.Values.{is_dated}
 use Rattle.sy_literal.specs.Values.{date_point, point_in}
+use Rattle.sy_log.proofs.Booleans.{both}
 
 abbrev at_point : ℤ → Result ℤ DateFault
 at_point point = Ok point
@@ -43,11 +44,6 @@ point_dated unit text point e = written_dated unit (written_date text) point e
 
 at_most : (a b : ℤ) → a ≤ℤ b → int_le a b ≡ true
 at_most a b le = grind (arith, common_steps)
-
-both : (a b : Bool) → a ≡ true → b ≡ true → (a && b) ≡ true
-both true true e f = refl
-both true false e f = absurd cc
-both false b e f = absurd cc
 
 pub dated_test : (unit : TimeUnit) (point : ℤ) → IsDated unit point → is_dated unit point ≡ true
 dated_test unit point dated =

@@ -1,6 +1,6 @@
 -- What a line says is of the deed.
-use Rattle.std.proofs.Common.{◌≡◌, ℕ, suc, ◌+◌, ◌^◌, ◌<◌, ◌≤◌, ℤ, ◌≤ℤ◌, pos, neg_ℤ, Bool, true, false, ◌&&◌, ◌==◌, cond, nat_le, nat_lt, int_lt, if◌then◌else◌, List, [], ◌∷◌, length, slice_get, Option, Some, None, option_map, option_and_then, Result, Ok, Err, refl, ap, subst, ◌∙◌, arith}
-use Rattle.std.specs.List.{list_all, position_from}
+use Rattle.std.proofs.Common.{◌≡◌, ℕ, suc, ◌+◌, ◌^◌, ◌<◌, ◌≤◌, ℤ, ◌≤ℤ◌, pos, neg_ℤ, Bool, true, false, ◌==◌, cond, nat_le, nat_lt, int_lt, if◌then◌else◌, List, [], ◌∷◌, length, slice_get, Option, Some, None, option_map, option_and_then, Result, Ok, Err, refl, ap, subst, ◌∙◌, arith}
+use Rattle.std.specs.List.{list_all, list_any, position_from}
 use Rattle.std.proofs.lemmas.Bool.Decides.{nat_tests, Decides-eqb}
 use Rattle.std.proofs.lemmas.Grind.{common_steps}
 use Rattle.std.proofs.lemmas.Option.{slice_get_within}
@@ -23,18 +23,21 @@ use Rattle.sy_core.specs.Values.{is_constant_of, is_in_range, is_value_of}
 use Rattle.sy_binding.specs.declared.tree.FieldTree.{FieldTree}
 use Rattle.sy_binding.specs.declared.tree.ValueTree.{ValueTree}
 use Rattle.sy_binding.specs.declared.tree.ValueTree.TheVariants as T
-use Rattle.sy_literal.specs.Values.{date_point, number_value}
+use Rattle.sy_literal.specs.Values.{date_point, number_value, text_content}
 use Rattle.sy_log.specs.declared.read.Entry.{Entry}
 use Rattle.sy_log.specs.declared.read.Entry.TheVariants as E
 use Rattle.sy_log.specs.declared.tree.WhatTree.{WhatTree}
 use Rattle.sy_log.specs.declared.tree.WhatTree.TheVariants as Tree
 use Rattle.sy_log.specs.declared.tree.LineTree.{LineTree}
 use Rattle.sy_log.specs.declared.tree.LineTree.TheVariants as L
-use Rattle.sy_log.specs.Happenings.{are_values_at, are_values_of, is_what_of}
-use Rattle.sy_log.specs.Values.{all_given, constant_named, given_once, is_attribute, same, value_given, value_of, values_given, with_first}
+use Rattle.sy_log.specs.Happenings.{are_values_at, are_values_of, is_told_value, is_what_of, is_writable}
+use Rattle.sy_log.specs.Values.{all_given, constant_named, given_once, gives, is_attribute, same, value_given, value_of, values_given, with_first, written_number}
 use Rattle.sy_log.specs.Entries as e
 use Rattle.sy_log.specs.Entries.{IsEntry, IsEntryOf, attributes_of, date_told, entry_of, event_has_name, event_named, event_told, exertion_told, from_start, noted, power_has_name, power_named, reported, what_told, with_values}
+use Rattle.sy_log.proofs.Booleans.{both, left}
 use Rattle.sy_log.proofs.Dated.{dated_test, point_dated}
+use Rattle.sy_log.proofs.Lexed.{AreLexed, IsLexed, IsLexedLine, IsLexedWhat, line_lexed}
+use Rattle.sy_log.proofs.ValuesBack.{string_content}
 
 -- ---- places
 
@@ -78,19 +81,6 @@ found test xs p h =
     subst (Found test xs) there from.found
 
 -- ---- values
-
-both : (a b : Bool) → a ≡ true → b ≡ true → (a && b) ≡ true
-both true true h h' = refl
-both true false h h' = absurd cc
-both false b h h' = absurd cc
-
-right : (a b : Bool) → (a && b) ≡ true → b ≡ true
-right true b h = h
-right false b h = absurd cc
-
-left : (a b : Bool) → (a && b) ≡ true → a ≡ true
-left true b h = refl
-left false b h = absurd cc
 
 itself : (n : ℕ) → (n == n) ≡ true
 itself n = (Decides-eqb n n).1 refl
@@ -157,35 +147,72 @@ module _ (deed : Deed) where
   value_fits (K.Choice of) (T.Name x) v h = constant_fits of x.text (slice_get deed.choices of) refl v h
   value_fits kind tree v h = absurd cc
 
-  given_fits : (kind : ValueKind) (given : Option ValueTree) (v : Value) → option_and_then (value_of deed kind) given ≡ Some v
-      → is_value_of deed kind v ≡ true
-  given_fits kind None v h = absurd cc
-  given_fits kind (Some tree) v h = value_fits kind tree v h
+  made : {A : Type 0} (make : A → Value) → ((x : A) → is_writable (make x) ≡ true) → (x : Option A) (v : Value)
+      → option_map make x ≡ Some v → is_writable v ≡ true
+  made make plain None v h = absurd cc
+  made make plain (Some x) v h = subst (λ w. is_writable w ≡ true) (some_value (make x) v h) (plain x)
+
+  -- a text of a token between quotes can stand there
+  value_writable : (kind : ValueKind) (tree : ValueTree) (v : Value) → IsLexed tree → value_of deed kind tree ≡ Some v
+      → is_writable v ≡ true
+  value_writable K.Number (T.Number n) v lexed h = made (λ m. V.Number m) (λ m. refl) (written_number n) v h
+  value_writable K.Number (T.Negative place n) v lexed h = made (λ m. V.Number (neg_ℤ m)) (λ m. refl) (written_number n) v h
+  value_writable K.Text (T.Str t) v lexed h =
+      subst (λ w. is_writable w ≡ true) (some_value (V.Text (text_content t.text)) v h) (string_content t.text lexed)
+  value_writable K.Boolean (T.Const truth place) v lexed h =
+      subst (λ w. is_writable w ≡ true) (some_value (V.Boolean truth) v h) refl
+  value_writable K.Date (T.Date t) v lexed h = made (λ p. V.Date p) (λ p. refl) (date_point deed.unit t.text) v h
+  value_writable (K.Choice of) (T.Name x) v lexed h =
+      made (λ i. V.Choice of i) (λ i. refl) (option_and_then (constant_named x.text) (slice_get deed.choices of)) v h
+  value_writable kind tree v lexed h = absurd cc
+
+  given_fits : (kind : ValueKind) (given : Option ValueTree) (v : Value) → ((tree : ValueTree) → given ≡ Some tree → IsLexed tree)
+      → option_and_then (value_of deed kind) given ≡ Some v → is_told_value deed kind v ≡ true
+  given_fits kind None v lexed h = absurd cc
+  given_fits kind (Some tree) v lexed h =
+      both (is_value_of deed kind v) (is_writable v) (value_fits kind tree v h) (value_writable kind tree v (lexed tree refl) h)
+
+  some_tree : (tree other : ValueTree) → Some tree ≡ Some other → tree ≡ other
+  some_tree tree other h = cc
+
+  once_lexed : (name : List ℕ) (f : FieldTree) (fields : List FieldTree) (here again : Bool) → IsLexed f.value
+      → ((tree : ValueTree) → given_once name fields ≡ Some tree → IsLexed tree) → (tree : ValueTree)
+      → (if here then (if again then None else Some f.value) else given_once name fields) ≡ Some tree → IsLexed tree
+  once_lexed name f fields true true lexed later tree h = absurd cc
+  once_lexed name f fields true false lexed later tree h = subst IsLexed (some_tree f.value tree h) lexed
+  once_lexed name f fields false again lexed later tree h = later tree h
+
+  given_lexed : (name : List ℕ) (fields : List FieldTree) → AreLexed fields → (tree : ValueTree) → given_once name fields ≡ Some tree
+      → IsLexed tree
+  given_lexed name [] lexed tree h = absurd cc
+  given_lexed name (f ∷ fields) lexed tree h =
+      once_lexed name f fields (gives name f) (list_any (gives name) fields) lexed.0 (given_lexed name fields lexed.1) tree h
 
   some_values : (vs ws : List Value) → Some vs ≡ Some ws → vs ≡ ws
   some_values vs ws h = cc
 
   first_fits : (attr : AttrDecl) (attrs : List AttrDecl) (given : Option Value) (others : Option (List Value))
-      → ((v : Value) → given ≡ Some v → is_value_of deed attr.kind v ≡ true)
+      → ((v : Value) → given ≡ Some v → is_told_value deed attr.kind v ≡ true)
       → ((vs : List Value) → others ≡ Some vs → are_values_of deed attrs vs ≡ true)
       → (values : List Value) → with_first given others ≡ Some values → are_values_of deed (attr ∷ attrs) values ≡ true
   first_fits attr attrs (Some v) (Some vs) one more values h =
       subst (λ ws. are_values_of deed (attr ∷ attrs) ws ≡ true) (some_values (v ∷ vs) values h)
-      (both (is_value_of deed attr.kind v) (are_values_of deed attrs vs) (one v refl) (more vs refl))
+      (both (is_told_value deed attr.kind v) (are_values_of deed attrs vs) (one v refl) (more vs refl))
   first_fits attr attrs (Some v) None one more values h = absurd cc
   first_fits attr attrs None others one more values h = absurd cc
 
-  all_fit : (fields : List FieldTree) (attrs : List AttrDecl) (values : List Value) → all_given deed fields attrs ≡ Some values
-      → are_values_of deed attrs values ≡ true
-  all_fit fields [] values h = subst (λ ws. are_values_of deed [] ws ≡ true) (some_values [] values h) refl
-  all_fit fields (attr ∷ attrs) values h =
+  all_fit : (fields : List FieldTree) → AreLexed fields → (attrs : List AttrDecl) (values : List Value)
+      → all_given deed fields attrs ≡ Some values → are_values_of deed attrs values ≡ true
+  all_fit fields lexed [] values h = subst (λ ws. are_values_of deed [] ws ≡ true) (some_values [] values h) refl
+  all_fit fields lexed (attr ∷ attrs) values h =
       first_fits attr attrs (value_given deed fields attr) (all_given deed fields attrs)
-      (given_fits attr.kind (given_once attr.name fields)) (all_fit fields attrs) values h
+      (λ v given. given_fits attr.kind (given_once attr.name fields) v (given_lexed attr.name fields lexed) given)
+      (all_fit fields lexed attrs) values h
 
-  own_fit : (fields : List FieldTree) (attrs : List AttrDecl) (known : Bool) (values : List Value)
+  own_fit : (fields : List FieldTree) → AreLexed fields → (attrs : List AttrDecl) (known : Bool) (values : List Value)
       → (if known then all_given deed fields attrs else None) ≡ Some values → are_values_of deed attrs values ≡ true
-  own_fit fields attrs true values h = all_fit fields attrs values h
-  own_fit fields attrs false values h = absurd cc
+  own_fit fields lexed attrs true values h = all_fit fields lexed attrs values h
+  own_fit fields lexed attrs false values h = absurd cc
 
   -- ---- what happens
 
@@ -203,26 +230,26 @@ module _ (deed : Deed) where
       subst (λ w. is_what_of deed w ≡ true) (same_what (W.Event event vs) what h)
       (ap (λ d. are_values_at deed d vs) there ∙ fit vs refl)
 
-  named_event : (fields : List FieldTree) (place : Option ℕ) → ((i : ℕ) → place ≡ Some i → (decl : EventDecl) × (slice_get deed.events i ≡ Some decl))
+  named_event : (fields : List FieldTree) → AreLexed fields → (place : Option ℕ) → ((i : ℕ) → place ≡ Some i → (decl : EventDecl) × (slice_get deed.events i ≡ Some decl))
       → (what : What) → event_told deed fields place ≡ Ok what → is_what_of deed what ≡ true
-  named_event fields None there what h = absurd cc
-  named_event fields (Some i) there what h =
+  named_event fields lexed None there what h = absurd cc
+  named_event fields lexed (Some i) there what h =
       let d = there i refl in
       event_of i d.0 d.1 (values_given deed (attributes_of (slice_get deed.events i)) fields)
       (λ vs given.
       let own : values_given deed d.0.attrs fields ≡ Some vs = subst (λ o. values_given deed (attributes_of o) fields ≡ Some vs) d.1 given in
-      own_fit fields d.0.attrs (list_all (is_attribute d.0.attrs) fields) vs own) what h
+      own_fit fields lexed d.0.attrs (list_all (is_attribute d.0.attrs) fields) vs own) what h
 
   exertion_of : (place : Option ℕ) → ((i : ℕ) → place ≡ Some i → form_passes is_power (slice_get deed.positions i) ≡ true)
       → (what : What) → exertion_told place ≡ Ok what → is_what_of deed what ≡ true
   exertion_of None there what h = absurd cc
   exertion_of (Some i) there what h = subst (λ w. is_what_of deed w ≡ true) (same_what (W.Exert i) what h) (there i refl)
 
-  what_of : (tree : WhatTree) (what : What) → what_told deed tree ≡ Ok what → is_what_of deed what ≡ true
-  what_of (Tree.Happens name fields) what h =
-      named_event fields (event_named name.text deed.events)
+  what_of : (tree : WhatTree) → IsLexedWhat tree → (what : What) → what_told deed tree ≡ Ok what → is_what_of deed what ≡ true
+  what_of (Tree.Happens name fields) lexed what h =
+      named_event fields lexed (event_named name.text deed.events)
       (λ i is. let f = found (event_has_name name.text) deed.events i is in (f.item, f.at)) what h
-  what_of (Tree.Exert name) what h =
+  what_of (Tree.Exert name) lexed what h =
       exertion_of (power_named name.text deed.positions)
       (λ i is.
       let f = found (power_has_name name.text) deed.positions i is in
@@ -280,19 +307,19 @@ module _ (deed : Deed) where
   reported_of (Err name) dated entry h = absurd cc
   reported_of (Ok p) dated entry h = subst (IsEntryOf deed) (same_entry (E.Report p) entry h) (dated p refl)
 
-  told_of : (tree : LineTree) (entry : Entry) → entry_of deed tree ≡ Ok entry → IsEntryOf deed entry
-  told_of (L.At date what) entry h =
-      noted_of (what_told deed what) (from_start deed.start (date_told (date_point deed.unit date.text))) (what_of what)
+  told_of : (tree : LineTree) → IsLexedLine tree → (entry : Entry) → entry_of deed tree ≡ Ok entry → IsEntryOf deed entry
+  told_of (L.At date what) lexed entry h =
+      noted_of (what_told deed what) (from_start deed.start (date_told (date_point deed.unit date.text))) (what_of what lexed)
       (timely (date_told (date_point deed.unit date.text)) (told_dated (date_point deed.unit date.text) (point_dated deed.unit date.text)))
       entry h
-  told_of (L.Report date) entry h =
+  told_of (L.Report date) lexed entry h =
       reported_of (date_told (date_point deed.unit date.text))
       (told_dated (date_point deed.unit date.text) (point_dated deed.unit date.text)) entry h
 
   entry_by : (bytes : List ℕ) (told : Result Entry FaultName) → IsEntry deed bytes told → (entry : Entry) → told ≡ Ok entry
       → IsEntryOf deed entry
   entry_by bytes told (e.blank b) entry h = subst (IsEntryOf deed) (same_entry E.Blank entry h) tt
-  entry_by bytes told (e.written tree w) entry h = told_of tree entry h
+  entry_by bytes told (e.written tree w) entry h = told_of tree (line_lexed bytes tree w) entry h
   entry_by bytes told (e.neither filled none) entry h = absurd cc
 
   pub entry_is_of : (bytes : List ℕ) (entry : Entry) → IsEntry deed bytes (Ok entry) → IsEntryOf deed entry

@@ -3,4 +3,5 @@ pub mod EntryText
 pub mod Happenings
 pub mod Lines
 pub mod Machine
+pub mod Naming
 pub mod Values

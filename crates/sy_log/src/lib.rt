@@ -2,8 +2,8 @@
 #![tactic(auto)]
 
 mod fault;
+mod laws;
 mod names;
-mod names_law;
 mod print;
 mod read;
 mod reading;
@@ -13,6 +13,6 @@ mod told;
 mod tree;
 mod values;
 
-pub use names_law::sound_deeds_have_few_names;
+pub use laws::{each_line_says_something, printed_entries_read_back, sound_deeds_have_few_names};
 pub use print::print_entry;
 pub use read::{Entry, read_line};

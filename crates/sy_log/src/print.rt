@@ -219,7 +219,8 @@ fn add_what(alloc: Global, out: &mut Vec<u8>, deed: &Deed, what: &What) -> Resul
     }
 }
 
-/// The line that tells a happening, without a newline.
+/// The line that tells a happening, without a newline. `printed_entries_read_back` says what it is
+/// read as.
 pub fn print_entry(alloc: Global, deed: &Deed, happening: &Happening) -> Result<Text, Memory>
     requires { IsOfDeed deed.now happening.now }
     ensures { IfOk result (λ line. line ≡ text.entry_text deed.now happening.now) }

@@ -1,5 +1,5 @@
 use Rattle.std.proofs.Common.{arith}
-use Rattle.sy_log.proofs.names_law.sound_deeds_have_few_names.Goals as goal
+use Rattle.sy_log.proofs.laws.sound_deeds_have_few_names.Goals as goal
 
 pub returns : goal.returns
 returns c = λ deed sound. record {
