@@ -1,5 +1,5 @@
 -- The tables as of a date can be printed.
-use Rattle.std.proofs.Common.{◌≡◌, ℕ, zero, suc, ◌+◌, ◌<◌, ◌≤◌, ℤ, pos, ◌+ℤ◌, ◌-ℤ◌, ◌≤ℤ◌, nat_abs, Bool, true, false, cond, List, [], ◌∷◌, length, refl, sym, ap, subst, arith}
+use Rattle.std.proofs.Common.{◌≡◌, ℕ, zero, suc, ◌+◌, ◌<◌, ◌≤◌, ℤ, pos, ◌+ℤ◌, ◌-ℤ◌, ◌≤ℤ◌, nat_abs, int_lt, Bool, true, false, cond, List, [], ◌∷◌, length, refl, sym, ap, subst, arith}
 use Rattle.std.specs.List.{All}
 use Rattle.std.proofs.lemmas.Int.{ints}
 use Rattle.std.proofs.lemmas.List.{length-replicate}
@@ -15,9 +15,9 @@ use Rattle.sy_core.specs.declared.state.StateOf.TheVariants as S
 use Rattle.sy_core.specs.declared.table.Mark.{Mark}
 use Rattle.sy_core.specs.Chronicle.{chronicle, moment_at, state_at}
 use Rattle.sy_core.specs.Moments.{Moment}
-use Rattle.sy_core.specs.Tables.{is_violated, is_void, marks, marks_at, states_of, table_before, table_after}
+use Rattle.sy_core.specs.Tables.{is_violated, is_void, marks, marks_at, states_of, table_before, table_after, table_as_of}
 use Rattle.sy_report.specs.Printing.{IsPrintable}
-use Rattle.sy_run.proofs.Marking.{one_moment}
+use Rattle.sy_monitor.proofs.Marking.{one_moment}
 
 -- a point between two dates is one
 pub between : (unit : TimeUnit) (start date : ℤ) (k n : ℕ) → IsDated unit start → IsDated unit date → start +ℤ pos n ≡ date → k ≤ n → IsDated unit (start +ℤ pos k)
@@ -76,3 +76,18 @@ after_is_printable d narrative n dated = record {
   violations = marks_dated d.unit is_violated d narrative (suc n) dated;
   voids = marks_dated d.unit is_void d narrative (suc n) dated;
 }
+
+module _ (d : Deed) (narrative : List Happening) (date : ℤ) (start : IsDated d.unit d.start) (dated : IsDated d.unit date) where
+  from_start : d.start ≤ℤ date → IsPrintable d (table_after d narrative (nat_abs (date -ℤ d.start)))
+  from_start le =
+      let n = nat_abs (date -ℤ d.start) in
+      after_is_printable d narrative n (λ k lt. between d.unit d.start date k n start dated (reached d.start date le) (omega arith))
+
+  by_date : (test : Bool) → int_lt date d.start ≡ test
+      → IsPrintable d (cond test (table_before d date) (table_after d narrative (nat_abs (date -ℤ d.start))))
+  by_date true is = before_is_printable d date dated
+  by_date false is = from_start (grind (arith, ints))
+
+  -- so the table as of a date can be printed
+  pub as_of_is_printable : IsPrintable d (table_as_of d narrative date)
+  as_of_is_printable = by_date (int_lt date d.start) refl

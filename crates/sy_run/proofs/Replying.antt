@@ -1,9 +1,7 @@
 -- The next line of an input that is told, and what is answered to it.
-use Rattle.std.proofs.Common.{◌≡◌, ℕ, ℤ, ◌+◌, ◌^◌, ◌<◌, ◌≤◌, inl, inr, List, [], ◌∷◌, ◌++◌, length, Bool, true, false, cond, nat_lt, refl, sym, ap, subst, ◌∙◌, append_assoc, arith, None, Some, Ok, Err, IsTrue}
-use Rattle.std.proofs.lemmas.Bool.Decides.{nat_tests}
+use Rattle.std.proofs.Common.{◌≡◌, ℕ, ◌+◌, inl, inr, List, [], ◌∷◌, ◌++◌, Bool, true, false, refl, sym, ap, subst, ◌∙◌, append_assoc, arith, None, Some, Ok, Err, IsTrue}
 use Rattle.std.specs.declared.option.Option.{Option}
 use Rattle.std.specs.Option.{is_some}
-use Rattle.std.specs.BTreeSet.{BTreeSet}
 use Rattle.sy_outside.specs.Lines.{lines_of}
 use Rattle.sy_outside.specs.LineReaderState.{LineReaderState}
 use Rattle.sy_outside.specs.LineReading.{Next, CutsLines}
@@ -14,8 +12,11 @@ use Rattle.sy_base.specs.declared.refusal.FaultName.TheVariants.{TooLong, TooMan
 use Rattle.sy_outside.proofs.ToldLines.{taken_from, next-synced}
 use Rattle.sy_core.specs.declared.deed.Deed.{Deed}
 use Rattle.sy_core.specs.declared.happening.Happening.{Happening}
-use Rattle.sy_run.specs.Output.{reply, refused_line, reply_or_refuse}
-use Rattle.sy_run.specs.FirstPath.{entry}
+use Rattle.sy_base.specs.declared.refusal.FileKind.TheVariants.{Log}
+use Rattle.sy_report.specs.RefusalText.{of_line, refusal_text}
+use Rattle.sy_monitor.specs.Following.{Followed}
+use Rattle.sy_run.specs.Output as o
+use Rattle.sy_run.specs.Output.{IsAnswered, Stops}
 use Rattle.sy_run.specs.Machine.Replies.{IsTextOf, Replies, Answers, RepliesNext, stop_at}
 use Rattle.sy_run.specs.declared.stop.Stop.{Stop}
 use Rattle.sy_run.specs.declared.stop.Stop.TheVariants.{ReadFault, Refused, Memory}
@@ -31,25 +32,10 @@ not_both b f t = cc
 pub false_of : (b : Bool) → (IsTrue b → ⊥) → b ≡ false
 false_of b never = elim b as (λ d. (IsTrue d → ⊥) → d ≡ false) [ true ↦ λ n. absurd (n refl) | false ↦ λ n. refl ] never
 
-few_test : (n : ℕ) → n ≤ 2 ^ 32 → nat_lt (2 ^ 32) n ≡ false
-few_test n h = grind (arith, nat_tests)
-
-many_test : (n : ℕ) → 2 ^ 32 < n → nat_lt (2 ^ 32) n ≡ true
-many_test n h = grind (arith, nat_tests)
-
-long_test : (n : ℕ) → 4096 < n → nat_lt 4096 n ≡ true
-long_test n h = grind (arith, nat_tests)
-
 module _ (deed : Deed) (noted : List Happening) where
-  reply_long : (n : ℕ) (line : List ℕ) → n ≤ 2 ^ 32 → 4096 < length line → reply deed noted n line ≡ refused_line noted n TooLong
-  reply_long n line few long = λ i. cond (few_test n few i) (refused_line noted n TooManyLines) (cond (long_test (length line) long i) (refused_line noted n TooLong) (reply_or_refuse deed noted n (entry deed.start line)))
-
-  reply_many : (n : ℕ) (line : List ℕ) → 2 ^ 32 < n → reply deed noted n line ≡ refused_line noted n TooManyLines
-  reply_many n line many = λ i. cond (many_test n many i) (refused_line noted n TooManyLines) (cond (nat_lt 4096 (length line)) (refused_line noted n TooLong) (reply_or_refuse deed noted n (entry deed.start line)))
-
-  module _ (points : BTreeSet ℤ) (old new : LineReaderState) (rest after : List ℕ) (left : Option (List ℕ)) (tells : left ≡ Some after) (synced : IsTrue old.ended → rest ≡ []) where
+  module _ (monitor : Followed) (old new : LineReaderState) (rest after : List ℕ) (left : Option (List ℕ)) (tells : left ≡ Some after) (synced : IsTrue old.ended → rest ≡ []) where
     -- the log goes no further
-    pub fault_told : (lines : ℕ) (fault : LineFault) → lines ≡ old.given → Next old new (Some rest) left (Err fault) → CutsLines old new rest after (Err fault) → RepliesNext deed noted points old new rest left (Err (stop_at lines fault))
+    pub fault_told : (lines : ℕ) (fault : LineFault) → lines ≡ old.given → Next old new (Some rest) left (Err fault) → CutsLines old new rest after (Err fault) → RepliesNext deed noted monitor old new rest left (Err (stop_at lines fault))
     fault_told lines F.ReadFault count next cuts =
         let taken : rest ≡ next.taken ++ after = taken_from rest after next.taken left tells next.consumed in record {
           part = old.held ++ next.taken;
@@ -63,21 +49,21 @@ module _ (deed : Deed) (noted : List Happening) where
       line = cuts.0;
       others = cuts.1;
       cut = cuts.2;
-      ends = ap (λ r. r.ends) (reply_long (old.given + 1) cuts.0 (omega (arith, next.cuts.2)) cuts.3);
-      same = ap (λ r. r.text) (reply_long (old.given + 1) cuts.0 (omega (arith, next.cuts.2)) cuts.3) ∙ ap (λ n. (refused_line noted (n + 1) TooLong).text) (sym count);
+      stops = subst (λ (t : List ℕ). IsAnswered deed noted (old.given + 1) cuts.0 (Stops t)) (ap (λ n. refusal_text (of_line Log (n + 1) TooLong)) (sym count))
+          (Err TooLong, o.too_long (omega (arith, next.cuts.2)) cuts.3, o.fault TooLong);
     }
     fault_told lines F.TooManyLines count next cuts = record {
       line = cuts.0;
       others = cuts.1;
       cut = cuts.2;
-      ends = ap (λ r. r.ends) (reply_many (old.given + 1) cuts.0 (omega (arith, next.cuts.1)));
-      same = ap (λ r. r.text) (reply_many (old.given + 1) cuts.0 (omega (arith, next.cuts.1))) ∙ ap (λ n. (refused_line noted (n + 1) TooManyLines).text) (sym count);
+      stops = subst (λ (t : List ℕ). IsAnswered deed noted (old.given + 1) cuts.0 (Stops t)) (ap (λ n. refusal_text (of_line Log (n + 1) TooManyLines)) (sym count))
+          (Err TooManyLines, o.too_many_lines (omega (arith, next.cuts.1)), o.fault TooManyLines);
     }
     fault_told lines F.Memory count next cuts = tt
 
     -- a line was answered by a text
     pub text_told : (line : Line) (text : List ℕ) → Next old new (Some rest) left (Ok (Some line)) → CutsLines old new rest after (Ok (Some line))
-        → IsTextOf points (reply deed noted line.number line.bytes) text → Answers deed noted points old new rest left text
+        → IsTextOf monitor deed (IsAnswered deed noted line.number line.bytes) text → Answers deed noted monitor old new rest left text
     text_told line text next cuts is =
         let taken : rest ≡ next.taken ++ after = taken_from rest after next.taken left tells next.consumed in record {
           line = line.bytes;
@@ -86,7 +72,7 @@ module _ (deed : Deed) (noted : List Happening) where
           synced = next-synced old new rest after left tells synced (Ok (Some line)) next;
           stays = next.stays;
           cut = cuts;
-          reply = subst (λ n. IsTextOf points (reply deed noted n line.bytes) text) next.cuts.number is;
+          reply = subst (λ (n : ℕ). IsTextOf monitor deed (IsAnswered deed noted n line.bytes) text) next.cuts.number is;
           whole = λ going. elim next.cuts.splits [
             | inl cut ↦
                 ap (λ l. old.held ++ l) taken ∙ sym (append_assoc old.held next.taken after) ∙ ap (λ l. l ++ after) cut ∙ append_assoc line.bytes (10 ∷ new.held) after
@@ -97,13 +83,12 @@ module _ (deed : Deed) (noted : List Happening) where
 
     -- a line was refused
     pub stop_told : (line : Line) (why : Stop) → Next old new (Some rest) left (Ok (Some line)) → CutsLines old new rest after (Ok (Some line))
-        → Replies points (reply deed noted line.number line.bytes) (Err why) → RepliesNext deed noted points old new rest left (Err why)
+        → Replies monitor deed (IsAnswered deed noted line.number line.bytes) (Err why) → RepliesNext deed noted monitor old new rest left (Err why)
     stop_told line ReadFault next cuts replies = absurd replies
     stop_told line (Refused refusal) next cuts replies = record {
       line = line.bytes;
       others = lines_of (new.held ++ after);
       cut = cuts;
-      ends = ap (λ n. (reply deed noted n line.bytes).ends) (sym next.cuts.number) ∙ replies.0;
-      same = ap (λ n. (reply deed noted n line.bytes).text) (sym next.cuts.number) ∙ replies.1;
+      stops = subst (λ (n : ℕ). IsAnswered deed noted n line.bytes (Stops (refusal_text refusal))) next.cuts.number replies;
     }
     stop_told line Memory next cuts replies = tt

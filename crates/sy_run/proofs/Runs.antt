@@ -11,7 +11,7 @@ use Rattle.sy_spec.specs.declared.contract.SpecTree.{SpecTree}
 use Rattle.sy_run.specs.Commands.{Command, Compile, Monitor, Unknown}
 use Rattle.sy_run.specs.Machine.Stopping.{IsToldAs, is_read_stop}
 use Rattle.sy_run.specs.Machine.Stream.{HowStopped, refused, half_refused, not_refused, not_read, no_memory, IsReadingStatus, IsUsageStatus, IsWritingStatus, StopsWith, StreamCaused, StreamEnds, WriteCaused, WroteAllRead}
-use Rattle.sy_run.specs.Outcomes.{End, Finished, Stopped, Missing, Misused, GivesDeed, IsAskedFor, IsOutcome, Outcome, asked_by_lines, compiled, monitored, stopped, usage}
+use Rattle.sy_run.specs.Outcomes.{End, Finished, Stopped, Missing, Misused, GivesDeed, IsAskedFor, IsOutcome, Outcome, compiled, stopped, usage}
 use Rattle.sy_run.specs.Run.{Caused, Completes, Ends, EndsAs, IsRun, IsStatusFor, IsStatusOf, KnowsFor}
 use Rattle.sy_run.specs.Texts.{IsDeedIn, IsSoundSpecIn}
 use Rattle.sy_run.specs.World.{World, InputStays, NoneFailed, ReadsSteady}
@@ -283,13 +283,13 @@ followed_run spec bind before after deed status given ends is files wrote =
     let gives : (s b : Option (List ℕ)) → before.file spec ≡ Some s → before.file bind ≡ Some b → GivesDeed before spec bind (Ok deed) =
     λ s b ks kb. (s, b, ks, kb, given s b ks kb) in
     let outcome : KnowsFor (Monitor spec bind) before → EndsAs (Monitor spec bind) before after status =
-    λ knows. inl (monitored (Ok deed) knows.2.0, (Ok deed, gives knows.0.0 knows.1.0 knows.0.1 knows.1.1, (knows.2.0, knows.2.1, refl)), (ends knows.2.0 knows.2.1).ends) in record {
+    λ knows.
+    let e = (ends knows.2.0 knows.2.1).ends in
+    inl (e.0, (Ok deed, gives knows.0.0 knows.1.0 knows.0.1 knows.1.1, (knows.2.0, knows.2.1, e.1)), e.2) in record {
       outcome = outcome;
-      answered = λ knows failed taken rest was now. (
-        asked_by_lines (Ok deed) taken,
-        inl (Ok deed, gives knows.0.0 knows.1.0 knows.0.1 knows.1.1, refl),
-        subst (WroteAllRead before.held after.held (Ok deed) taken) failed ((ends (taken ++ rest) was).all_read taken rest now refl),
-      );
+      answered = λ knows failed taken rest was now.
+          let all = subst (WroteAllRead before.held after.held (Ok deed) taken) failed ((ends (taken ++ rest) was).all_read taken rest now refl) in
+          (all.0, inl (Ok deed, gives knows.0.0 knows.1.0 knows.0.1 knows.1.1, all.1), all.2);
       complete = completes (Monitor spec bind) before after status outcome cause;
       cause = cause;
       input = λ leaves. absurd (leaves.2 deed (gives leaves.0.0 leaves.1.0 leaves.0.1 leaves.1.1));

@@ -1,19 +1,22 @@
 -- A stream goes on from line to line, and ends.
-use Rattle.std.proofs.Common.{◌≡◌, ℕ, ℤ, ◌+◌, List, [], ◌∷◌, ◌++◌, length, take, true, false, cond, eqb, refl, sym, ap, subst, ◌∙◌, append_assoc, append-nil, arith, None, Some, Ok, Err}
+use Rattle.std.proofs.Common.{◌≡◌, ◌↔◌, ℕ, ◌+◌, List, [], ◌∷◌, ◌++◌, length, take, Bool, true, false, cond, eqb, refl, sym, ap, subst, ◌∙◌, append_assoc, append-nil, arith, None, Some, Ok, Err}
 use Rattle.std.proofs.Math.Seq.{take-append-add, take-append_seam}
 use Rattle.std.proofs.lemmas.List.{take-append-le, length-append, append_cancel_right}
 use Rattle.sy_run.proofs.Replying.{not_both, false_of}
 use Rattle.std.proofs.KnownBytes.{Appends-nil, Appends-trans}
 use Rattle.std.specs.declared.option.Option.{Option}
-use Rattle.std.specs.BTreeSet.{BTreeSet}
 use Rattle.std.specs.Io.KnownBytes.{Appends}
+use Rattle.std.specs.List.{Contains}
 use Rattle.sy_outside.specs.Lines.{lines_of, whole_lines_of, onto_whole, has_newline}
 use Rattle.sy_outside.specs.LineReaderState.{LineReaderState, new_line_reader}
 use Rattle.sy_outside.specs.Writing.{AppendsPrefix, AppendsProperPrefix}
 use Rattle.sy_core.specs.declared.deed.Deed.{Deed}
-use Rattle.sy_run.specs.Machine.Holding.{Holds}
-use Rattle.sy_run.specs.Output.{reply, output, is_refused}
-use Rattle.sy_run.specs.Outcomes.{end_of, monitored}
+use Rattle.sy_core.specs.declared.happening.Happening.{Happening}
+use Rattle.sy_monitor.specs.Following.{Followed}
+use Rattle.sy_run.specs.Output as o
+use Rattle.sy_run.specs.Output.{IsAnswered, IsOutput, IsOutputOf, Goes, Stops}
+use Rattle.sy_run.specs.Outcomes.{IsAskedByLines, IsMonitored, Outcome, end_of}
+use Rattle.sy_run.proofs.Outputs.{has_output}
 use Rattle.sy_run.specs.Run.{Ends}
 use Rattle.sy_report.specs.RefusalText.{refusal_text}
 use Rattle.sy_run.specs.Machine.Replies.{Answers, Refuses, BreaksOff, RepliesNext}
@@ -60,81 +63,108 @@ same_rest : (xs ys : List ℕ) (left : Option (List ℕ)) → left ≡ Some xs �
 same_rest xs ys left p q = cc
 
 module _ (deed : Deed) (bytes : List ℕ) (first : Option (List ℕ)) where
-  module _ (points : BTreeSet ℤ) (reader : LineReaderState) (left held : Option (List ℕ)) (so : SoFar deed points reader bytes left first held) where
-    -- what is to come after what was written
-    all_text : output deed [] 1 (lines_of bytes) ≡ so.piece ++ output deed so.noted (reader.given + 1) (lines_of (reader.held ++ so.rest))
-    all_text = ap (output deed [] 1) so.cut ∙ so.says (lines_of (reader.held ++ so.rest))
+  -- the outcome of all has a text, and what was written of it
+  abbrev pub EndsIn : Option (List ℕ) → Status → Type 0
+  EndsIn new status = (outcome : Outcome) × IsMonitored (Ok deed) bytes outcome × Ends first new outcome status
 
-    all_refused : is_refused deed [] 1 (lines_of bytes) ≡ is_refused deed so.noted (reader.given + 1) (lines_of (reader.held ++ so.rest))
-    all_refused = ap (is_refused deed [] 1) so.cut ∙ so.refuses (lines_of (reader.held ++ so.rest))
+  abbrev outcome : List ℕ → Bool → Outcome
+  outcome text is_refused = record { text = text; end = end_of is_refused }
+
+  module _ (monitor : Followed) (reader : LineReaderState) (left held : Option (List ℕ)) (so : SoFar deed monitor reader bytes left first held) where
+    -- the lines that are to come
+    abbrev to_come : List (List ℕ)
+    to_come = lines_of (reader.held ++ so.rest)
+
+    -- the output of all is what was written and that of what is to come
+    all_output : (text : List ℕ) (is_refused : Bool) → IsOutput deed so.noted (reader.given + 1) to_come text is_refused
+        → IsMonitored (Ok deed) bytes (outcome (so.piece ++ text) is_refused)
+    all_output text is_refused output = (
+      so.piece ++ text,
+      is_refused,
+      subst (λ (lines : List (List ℕ)). IsOutputOf deed lines (so.piece ++ text) is_refused) (sym so.cut) (so.says to_come text is_refused output),
+      refl,
+    )
 
     -- the input ended
-    pub finished : reader.held ++ so.rest ≡ [] → Ends first held (monitored (Ok deed) bytes) Done
+    pub finished : reader.held ++ so.rest ≡ [] → EndsIn held Done
     finished none =
-        let nothing : output deed so.noted (reader.given + 1) (lines_of (reader.held ++ so.rest)) ≡ [] = ap (λ l. output deed so.noted (reader.given + 1) (lines_of l)) none in
-        let text : output deed [] 1 (lines_of bytes) ≡ so.piece = all_text ∙ ap (λ l. so.piece ++ l) nothing ∙ append-nil so.piece in
-        (subst (Appends first held) (sym text) so.appended, ap end_of (all_refused ∙ ap (λ l. is_refused deed so.noted (reader.given + 1) (lines_of l)) none))
+        let output : IsOutput deed so.noted (reader.given + 1) to_come [] false =
+        subst (λ (rest : List ℕ). IsOutput deed so.noted (reader.given + 1) (lines_of rest) [] false) (sym none) (o.ends so.noted (reader.given + 1)) in
+        (outcome (so.piece ++ []) false, all_output [] false output, (subst (Appends first held) (sym (append-nil so.piece)) so.appended, refl))
+
+    still : (new : Option (List ℕ)) → Appends held new [] → Appends first new so.piece
+    still new p = subst (Appends first new) (append-nil so.piece) (Appends-trans first held new so.piece [] so.appended p)
+
+    abbrev CutOff : Option (List ℕ) → Type 0
+    CutOff new = (outcome : Outcome) × IsMonitored (Ok deed) bytes outcome × AppendsPrefix first new outcome.text
 
     -- memory was wanting, or nothing more was written for another reason
-    pub cut_off : (new : Option (List ℕ)) → Appends held new [] → AppendsPrefix first new (output deed [] 1 (lines_of bytes))
+    pub cut_off : (new : Option (List ℕ)) → Appends held new [] → CutOff new
     cut_off new p =
-        let still : Appends first new so.piece = subst (Appends first new) (append-nil so.piece) (Appends-trans first held new so.piece [] so.appended p) in
-        subst (AppendsPrefix first new) (sym all_text) (prefix_of first new so.piece (output deed so.noted (reader.given + 1) (lines_of (reader.held ++ so.rest))) still)
+        let rest = has_output deed to_come so.noted (reader.given + 1) in
+        (outcome (so.piece ++ rest.0) rest.1, all_output rest.0 rest.1 rest.2, prefix_of first new so.piece rest.0 (still new p))
 
     module _ (text : List ℕ) (refused : Refuses deed so.noted reader so.rest text) where
-      -- the text of all, which ends with the refusal
-      refused_text : output deed [] 1 (lines_of bytes) ≡ so.piece ++ text
-      refused_text =
-          all_text ∙ ap (λ l. so.piece ++ output deed so.noted (reader.given + 1) l) refused.cut
-          ∙ ap (λ b. so.piece ++ ((reply deed so.noted (reader.given + 1) refused.line).text ++ cond b [] (output deed (reply deed so.noted (reader.given + 1) refused.line).noted (reader.given + 1 + 1) refused.others))) refused.ends
-          ∙ ap (λ l. so.piece ++ l) (append-nil (reply deed so.noted (reader.given + 1) refused.line).text ∙ refused.same)
-
-      refused_end : is_refused deed [] 1 (lines_of bytes) ≡ true
-      refused_end =
-          all_refused ∙ ap (is_refused deed so.noted (reader.given + 1)) refused.cut
-          ∙ ap (λ b. cond b true (is_refused deed (reply deed so.noted (reader.given + 1) refused.line).noted (reader.given + 1 + 1) refused.others)) refused.ends
+      -- the output of all, which ends with the refusal
+      refused_output : IsMonitored (Ok deed) bytes (outcome (so.piece ++ text) true)
+      refused_output =
+          all_output text true
+          (subst (λ (lines : List (List ℕ)). IsOutput deed so.noted (reader.given + 1) lines text true) (sym refused.cut)
+          (o.stops so.noted (reader.given + 1) refused.line refused.others text refused.stops))
 
       -- the refusal was written
-      pub refused_whole : (new : Option (List ℕ)) → Appends held new text → Ends first new (monitored (Ok deed) bytes) Refused
-      refused_whole new p = (subst (Appends first new) (sym refused_text) (Appends-trans first held new so.piece text so.appended p), ap end_of refused_end)
+      pub refused_whole : (new : Option (List ℕ)) → Appends held new text → EndsIn new Refused
+      refused_whole new p = (outcome (so.piece ++ text) true, refused_output, (Appends-trans first held new so.piece text so.appended p, refl))
 
       -- a front of it was written
-      pub refused_part : (new : Option (List ℕ)) → AppendsProperPrefix held new text → AppendsProperPrefix first new (output deed [] 1 (lines_of bytes))
-      refused_part new p =
-          subst (AppendsProperPrefix first new) (sym (refused_text ∙ ap (λ l. so.piece ++ l) (sym (append-nil text)))) (prefix_after first held new so.piece text [] so.appended p)
+      pub refused_part : (new : Option (List ℕ)) → AppendsProperPrefix held new text → EndsIn new WriteFault
+      refused_part new p = (
+        outcome (so.piece ++ text) true,
+        refused_output,
+        subst (AppendsProperPrefix first new) (ap (λ l. so.piece ++ l) (append-nil text)) (prefix_after first held new so.piece text [] so.appended p),
+      )
+
+    abbrev AllRead : Option (List ℕ) → List ℕ → Type 0
+    AllRead new taken = (text : List ℕ) × IsAskedByLines (Ok deed) taken text × Appends first new text
 
     -- a read failed after all that was read was answered
     pub broke_off : (left' : Option (List ℕ)) → BreaksOff reader so.rest left' → (new : Option (List ℕ)) → Appends held new [] → (taken rest : List ℕ) → left' ≡ Some rest
-        → bytes ≡ taken ++ rest → Appends first new (output deed [] 1 (whole_lines_of taken))
+        → bytes ≡ taken ++ rest → AllRead new taken
     broke_off left' broken new p taken rest tells cut =
         let same : rest ≡ broken.after = same_rest rest broken.after left' tells broken.tells in
         let here : bytes ≡ (so.front ++ broken.part) ++ broken.after = so.split broken.open_end ∙ ap (λ l. so.front ++ l) broken.split ∙ sym (append_assoc so.front broken.part broken.after) in
         let is : taken ≡ so.front ++ broken.part = append_cancel_right taken (so.front ++ broken.part) broken.after (ap (λ l. taken ++ l) (sym same) ∙ sym cut ∙ here) in
         let lines : whole_lines_of taken ≡ so.lines ++ [] =
         ap whole_lines_of is ∙ so.whole broken.open_end broken.part ∙ ap (λ l. so.lines ++ l) (whole_lines_of-none broken.part broken.none) in
-        let text : output deed [] 1 (whole_lines_of taken) ≡ so.piece ++ [] = ap (output deed [] 1) lines ∙ so.says [] in
-        subst (Appends first new) (sym text) (Appends-trans first held new so.piece [] so.appended p)
+        let output : IsOutputOf deed (whole_lines_of taken) (so.piece ++ []) false =
+        subst (λ (ls : List (List ℕ)). IsOutputOf deed ls (so.piece ++ []) false) (sym lines) (so.says [] [] false (o.ends so.noted (reader.given + 1))) in
+        (so.piece ++ [], (false, output), Appends-trans first held new so.piece [] so.appended p)
 
-    module _ (points' : BTreeSet ℤ) (reader' : LineReaderState) (left' : Option (List ℕ)) (text : List ℕ) (a : Answers deed so.noted points' reader reader' so.rest left' text) where
-      -- what the line adds, and what comes after it
-      line_text : (more : List (List ℕ)) → output deed [] 1 ((so.lines ++ a.line ∷ []) ++ more)
-          ≡ so.piece ++ (text ++ output deed (reply deed so.noted (reader.given + 1) a.line).noted (reader.given + 1 + 1) more)
-      line_text more =
-          ap (output deed [] 1) (append_assoc so.lines (a.line ∷ []) more) ∙ so.says (a.line ∷ more)
-          ∙ ap (λ b. so.piece ++ ((reply deed so.noted (reader.given + 1) a.line).text ++ cond b [] (output deed (reply deed so.noted (reader.given + 1) a.line).noted (reader.given + 1 + 1) more))) a.reply.goes_on
-          ∙ ap (λ t. so.piece ++ (t ++ output deed (reply deed so.noted (reader.given + 1) a.line).noted (reader.given + 1 + 1) more)) (sym a.reply.same)
+    module _ (monitor' : Followed) (reader' : LineReaderState) (left' : Option (List ℕ)) (text : List ℕ) (a : Answers deed so.noted monitor' reader reader' so.rest left' text) where
+      -- what the line writes, and what comes after it
+      line_output : (more : List (List ℕ)) (later : List ℕ) (is_refused : Bool) → IsOutput deed a.reply.noted (reader.given + 1 + 1) more later is_refused
+          → IsOutputOf deed ((so.lines ++ a.line ∷ []) ++ more) (so.piece ++ (text ++ later)) is_refused
+      line_output more later is_refused output =
+          subst (λ (ls : List (List ℕ)). IsOutputOf deed ls (so.piece ++ (text ++ later)) is_refused) (sym (append_assoc so.lines (a.line ∷ []) more))
+          (so.says (a.line ∷ more) (text ++ later) is_refused
+          (o.goes_on so.noted a.reply.noted (reader.given + 1) a.line more text later is_refused a.reply.given output))
 
-      -- a front of what the line adds was written
-      pub answered_part : (new : Option (List ℕ)) → AppendsProperPrefix held new text → AppendsProperPrefix first new (output deed [] 1 (lines_of bytes))
+      -- a front of what the line writes was written
+      pub answered_part : (new : Option (List ℕ)) → AppendsProperPrefix held new text → EndsIn new WriteFault
       answered_part new p =
-          let after = output deed (reply deed so.noted (reader.given + 1) a.line).noted (reader.given + 1 + 1) (lines_of (reader'.held ++ a.after)) in
+          let after = has_output deed (lines_of (reader'.held ++ a.after)) a.reply.noted (reader.given + 1 + 1) in
           let all : lines_of bytes ≡ (so.lines ++ a.line ∷ []) ++ lines_of (reader'.held ++ a.after) =
           so.cut ∙ ap (λ l. so.lines ++ l) a.cut ∙ sym (append_assoc so.lines (a.line ∷ []) (lines_of (reader'.held ++ a.after))) in
-          subst (AppendsProperPrefix first new) (sym (ap (output deed [] 1) all ∙ line_text (lines_of (reader'.held ++ a.after))))
-          (prefix_after first held new so.piece text after so.appended p)
+          let output : IsOutputOf deed (lines_of bytes) (so.piece ++ (text ++ after.0)) after.1 =
+          subst (λ (ls : List (List ℕ)). IsOutputOf deed ls (so.piece ++ (text ++ after.0)) after.1) (sym all)
+          (line_output (lines_of (reader'.held ++ a.after)) after.0 after.1 after.2) in (
+            outcome (so.piece ++ (text ++ after.0)) after.1,
+            (so.piece ++ (text ++ after.0), after.1, output, refl),
+            prefix_after first held new so.piece text after.0 so.appended p,
+          )
 
       -- it was written, and the stream goes on
-      pub go_on : reader'.given ≡ reader.given + 1 → (new : Option (List ℕ)) → Appends held new text → SoFar deed points' reader' bytes left' first new
+      pub go_on : reader'.given ≡ reader.given + 1 → (new : Option (List ℕ)) → Appends held new text → SoFar deed monitor' reader' bytes left' first new
       go_on count new p =
           let earlier : reader'.ended ≡ false → reader.ended ≡ false = λ going. false_of reader.ended (λ t. not_both reader'.ended going (a.stays t)) in
           let joined : (more : List ℕ) → (so.front ++ (a.line ++ 10 ∷ [])) ++ more ≡ so.front ++ (a.line ++ 10 ∷ more) =
@@ -142,19 +172,16 @@ module _ (deed : Deed) (bytes : List ℕ) (first : Option (List ℕ)) where
             rest = a.after;
             tells = a.tells;
             synced = a.synced;
-            noted = (reply deed so.noted (reader.given + 1) a.line).noted;
-            holds = a.reply.holds;
+            noted = a.reply.noted;
+            follows = a.reply.follows;
             lines = so.lines ++ a.line ∷ [];
             cut = so.cut ∙ ap (λ l. so.lines ++ l) a.cut ∙ sym (append_assoc so.lines (a.line ∷ []) (lines_of (reader'.held ++ a.after)));
             piece = so.piece ++ text;
             appended = Appends-trans first held new so.piece text so.appended p;
-            says = λ more.
-                line_text more ∙ sym (append_assoc so.piece text (output deed (reply deed so.noted (reader.given + 1) a.line).noted (reader.given + 1 + 1) more))
-                ∙ ap (λ n. (so.piece ++ text) ++ output deed (reply deed so.noted (reader.given + 1) a.line).noted (n + 1) more) (sym count);
-            refuses = λ more.
-                ap (is_refused deed [] 1) (append_assoc so.lines (a.line ∷ []) more) ∙ so.refuses (a.line ∷ more)
-                ∙ ap (λ b. cond b true (is_refused deed (reply deed so.noted (reader.given + 1) a.line).noted (reader.given + 1 + 1) more)) a.reply.goes_on
-                ∙ ap (λ n. is_refused deed (reply deed so.noted (reader.given + 1) a.line).noted (n + 1) more) (sym count);
+            says = λ more later is_refused output.
+                subst (λ (t : List ℕ). IsOutputOf deed ((so.lines ++ a.line ∷ []) ++ more) t is_refused) (sym (append_assoc so.piece text later))
+                (line_output more later is_refused
+                (subst (λ (n : ℕ). IsOutput deed a.reply.noted (n + 1) more later is_refused) count output));
             front = so.front ++ (a.line ++ 10 ∷ []);
             split = λ going.
                 so.split (earlier going) ∙ ap (λ l. so.front ++ l) (a.whole going) ∙ sym (joined (reader'.held ++ a.after));
@@ -165,7 +192,7 @@ module _ (deed : Deed) (bytes : List ℕ) (first : Option (List ℕ)) where
           }
 
       -- what is answered to the line was written, or a front of it
-      pub answered : (result : Option Status) → reader'.given ≡ reader.given + 1 → (new : Option (List ℕ)) → WritesReply held new text result → AfterLine deed points' reader' bytes left' first new result
+      pub answered : (result : Option Status) → reader'.given ≡ reader.given + 1 → (new : Option (List ℕ)) → WritesReply held new text result → AfterLine deed monitor' reader' bytes left' first new result
       answered None count new p = go_on count new p
       answered (Some WriteFault) count new p = record { ends = answered_part new p; all_read = λ taken rest t c. tt }
       answered (Some Done) count new p = absurd p
@@ -177,50 +204,61 @@ module _ (deed : Deed) (bytes : List ℕ) (first : Option (List ℕ)) where
       answered (Some Undecided) count new p = absurd p
 
     -- the stream goes no further
-    pub stopped : (points' : BTreeSet ℤ) (reader' : LineReaderState) (left' : Option (List ℕ)) (why : Stop) (status : Status) (new : Option (List ℕ))
-        → RepliesNext deed so.noted points' reader reader' so.rest left' (Err why) → StopsWith held new why status → StreamEnds deed bytes left' first new status
-    stopped points' reader' left' (stop.Refused r) Refused new told p = record { ends = refused_whole (refusal_text r) told new p; all_read = λ taken rest t c. tt }
-    stopped points' reader' left' (stop.Refused r) WriteFault new told p = record { ends = refused_part (refusal_text r) told new p; all_read = λ taken rest t c. tt }
-    stopped points' reader' left' (stop.Refused r) Memory new told p = record { ends = cut_off new p; all_read = λ taken rest t c. tt }
-    stopped points' reader' left' (stop.Refused r) Done new told p = absurd p
-    stopped points' reader' left' (stop.Refused r) Found new told p = absurd p
-    stopped points' reader' left' (stop.Refused r) Usage new told p = absurd p
-    stopped points' reader' left' (stop.Refused r) ReadFault new told p = absurd p
-    stopped points' reader' left' (stop.Refused r) Undecided new told p = absurd p
-    stopped points' reader' left' stop.ReadFault ReadFault new told p = record { ends = cut_off new p; all_read = broke_off left' told new p }
-    stopped points' reader' left' stop.ReadFault Done new told p = absurd p
-    stopped points' reader' left' stop.ReadFault Found new told p = absurd p
-    stopped points' reader' left' stop.ReadFault Refused new told p = absurd p
-    stopped points' reader' left' stop.ReadFault Usage new told p = absurd p
-    stopped points' reader' left' stop.ReadFault WriteFault new told p = absurd p
-    stopped points' reader' left' stop.ReadFault Memory new told p = absurd p
-    stopped points' reader' left' stop.ReadFault Undecided new told p = absurd p
-    stopped points' reader' left' stop.Memory Memory new told p = record { ends = cut_off new p; all_read = λ taken rest t c. tt }
-    stopped points' reader' left' stop.Memory Done new told p = absurd p
-    stopped points' reader' left' stop.Memory Found new told p = absurd p
-    stopped points' reader' left' stop.Memory Refused new told p = absurd p
-    stopped points' reader' left' stop.Memory Usage new told p = absurd p
-    stopped points' reader' left' stop.Memory ReadFault new told p = absurd p
-    stopped points' reader' left' stop.Memory WriteFault new told p = absurd p
-    stopped points' reader' left' stop.Memory Undecided new told p = absurd p
+    pub stopped : (monitor' : Followed) (reader' : LineReaderState) (left' : Option (List ℕ)) (why : Stop) (status : Status) (new : Option (List ℕ))
+        → RepliesNext deed so.noted monitor' reader reader' so.rest left' (Err why) → StopsWith held new why status → StreamEnds deed bytes left' first new status
+    stopped monitor' reader' left' (stop.Refused r) Refused new told p = record { ends = refused_whole (refusal_text r) told new p; all_read = λ taken rest t c. tt }
+    stopped monitor' reader' left' (stop.Refused r) WriteFault new told p = record { ends = refused_part (refusal_text r) told new p; all_read = λ taken rest t c. tt }
+    stopped monitor' reader' left' (stop.Refused r) Memory new told p = record { ends = cut_off new p; all_read = λ taken rest t c. tt }
+    stopped monitor' reader' left' (stop.Refused r) Done new told p = absurd p
+    stopped monitor' reader' left' (stop.Refused r) Found new told p = absurd p
+    stopped monitor' reader' left' (stop.Refused r) Usage new told p = absurd p
+    stopped monitor' reader' left' (stop.Refused r) ReadFault new told p = absurd p
+    stopped monitor' reader' left' (stop.Refused r) Undecided new told p = absurd p
+    stopped monitor' reader' left' stop.ReadFault ReadFault new told p = record { ends = cut_off new p; all_read = broke_off left' told new p }
+    stopped monitor' reader' left' stop.ReadFault Done new told p = absurd p
+    stopped monitor' reader' left' stop.ReadFault Found new told p = absurd p
+    stopped monitor' reader' left' stop.ReadFault Refused new told p = absurd p
+    stopped monitor' reader' left' stop.ReadFault Usage new told p = absurd p
+    stopped monitor' reader' left' stop.ReadFault WriteFault new told p = absurd p
+    stopped monitor' reader' left' stop.ReadFault Memory new told p = absurd p
+    stopped monitor' reader' left' stop.ReadFault Undecided new told p = absurd p
+    stopped monitor' reader' left' stop.Memory Memory new told p = record { ends = cut_off new p; all_read = λ taken rest t c. tt }
+    stopped monitor' reader' left' stop.Memory Done new told p = absurd p
+    stopped monitor' reader' left' stop.Memory Found new told p = absurd p
+    stopped monitor' reader' left' stop.Memory Refused new told p = absurd p
+    stopped monitor' reader' left' stop.Memory Usage new told p = absurd p
+    stopped monitor' reader' left' stop.Memory ReadFault new told p = absurd p
+    stopped monitor' reader' left' stop.Memory WriteFault new told p = absurd p
+    stopped monitor' reader' left' stop.Memory Undecided new told p = absurd p
 
 -- nothing was read yet
-pub begins : (deed : Deed) (points : BTreeSet ℤ) (reader : LineReaderState) (bytes : List ℕ) (left held : Option (List ℕ)) → reader ≡ new_line_reader → left ≡ Some bytes → Holds points []
-    → SoFar deed points reader bytes left held held
-begins deed points reader bytes left held new tells holds =
+pub begins : (monitor : Followed) (reader : LineReaderState) (bytes : List ℕ) (left held : Option (List ℕ)) → reader ≡ new_line_reader → left ≡ Some bytes
+    → monitor.happened ≡ [] → SoFar monitor.deed monitor reader bytes left held held
+begins monitor reader bytes left held new tells empty =
     let none : reader.held ++ bytes ≡ bytes = ap (λ r. r.held ++ bytes) new in record {
       rest = bytes;
       tells = tells;
       synced = λ t. absurd (not_both reader.ended (ap (λ r. r.ended) new) t);
       noted = [];
-      holds = holds;
+      follows = record {
+        keeps = refl;
+        same = λ h. subst (λ (hs : List Happening). Contains hs h ↔ Contains [] h) (sym empty) (λ c. c, λ c. c);
+        counted = ap length empty;
+      };
       lines = [];
       cut = ap lines_of (sym none);
       piece = [];
       appended = Appends-nil held;
-      says = λ more. ap (λ (r : LineReaderState). output deed [] (r.given + 1) more) (sym new);
-      refuses = λ more. ap (λ (r : LineReaderState). is_refused deed [] (r.given + 1) more) (sym new);
+      says = λ more text is_refused output. subst (λ (r : LineReaderState). IsOutput monitor.deed [] (r.given + 1) more text is_refused) new output;
       front = [];
       split = λ going. sym none;
       whole = λ going more. refl;
+    }
+
+-- nothing was written
+pub not_begun : (deed : Deed) (bytes : List ℕ) (left held : Option (List ℕ)) → StreamEnds deed bytes left held held Memory
+not_begun deed bytes left held =
+    let all = has_output deed (lines_of bytes) [] 1 in record {
+      ends = (record { text = all.0; end = end_of all.1 }, (all.0, all.1, all.2, refl), prefix_of held held [] all.0 (Appends-nil held));
+      all_read = λ taken rest t c. tt;
     }

@@ -1,9 +1,7 @@
 -- From what the files give to the deed.
-use Rattle.std.proofs.Common.{◌≡◌, ℕ, ℤ, List, refl, sym, subst, Some, None, Ok, Err, Result}
-use Rattle.std.specs.Prelude.{IfSome}
+use Rattle.std.proofs.Common.{◌≡◌, ℕ, List, refl, Ok, Err, Result}
 use Rattle.std.specs.declared.option.Option.{Option}
 use Rattle.sy_base.specs.declared.refusal.FileKind.{FileKind}
-use Rattle.sy_base.specs.declared.refusal.FileKind.TheVariants.{Spec, Bind}
 use Rattle.sy_base.specs.declared.refusal.Refused.{Refused}
 use Rattle.sy_base.specs.declared.refusal.Refused.TheVariants as R
 use Rattle.sy_core.specs.declared.deed.Deed.{Deed}
@@ -15,9 +13,8 @@ use Rattle.sy_binding.specs.declared.tree.BindTree.{BindTree}
 use Rattle.sy_lex.specs.Lexemes.{Lexeme, lexemes_of}
 use Rattle.sy_reader.specs.Faults as faults
 use Rattle.sy_reader.specs.Faults.{IsSyntaxFault}
-use Rattle.sy_run.specs.FirstPath.{due_date, start_date}
 use Rattle.sy_run.specs.Machine.Stopping.{IsToldAs, stop_of}
-use Rattle.sy_run.specs.Texts.{IsTree, no_tokens, no_tree, IsSpecIn, IsBindingIn, IsDeedIn, IsDeedDue, date_or_refusal, date_of_tree, deed_due}
+use Rattle.sy_run.specs.Texts.{IsTree, no_tokens, no_tree, IsSoundSpecIn, IsBindingIn, IsDeedIn, bound}
 use Rattle.sy_run.specs.declared.stop.Stop.{Stop}
 use Rattle.sy_run.specs.declared.stop.Stop.TheVariants as stop
 
@@ -42,28 +39,17 @@ told_too IsGiven IsThen f stop.ReadFault told = tt
 told_too IsGiven IsThen f stop.Memory told = tt
 
 module _ (spec bind : Option (List ℕ)) where
-  pub stopped_by_spec : (why : Stop) → IsSpecIn spec (Err why) → IsDeedIn spec bind (Err why)
+  pub stopped_by_spec : (why : Stop) → IsSoundSpecIn spec (Err why) → IsDeedIn spec bind (Err why)
   stopped_by_spec why given = (Err why, given, refl)
 
-  module _ (tree : SpecTree) (given : IsSpecIn spec (Ok tree)) where
-    pub stopped_by_due : (why : Stop) → Err why ≡ date_or_refusal Spec (due_date tree) → IsDeedIn spec bind (Err why)
-    stopped_by_due why is = (Ok tree, given, subst (λ (d : Result ℤ Stop). IsDeedDue d bind (Err why)) is refl)
+  module _ (tree : SpecTree) (given : IsSoundSpecIn spec (Ok tree)) where
+    pub stopped_by_binding : (why : Stop) → IsBindingIn bind (Err why) → IsDeedIn spec bind (Err why)
+    stopped_by_binding why there = (Ok tree, given, (Err why, there, refl))
 
-    module _ (due : ℤ) (is : Ok due ≡ date_or_refusal Spec (due_date tree)) where
-      pub with_binding : (binding : Result BindTree Stop) → IsBindingIn bind binding → (result : Result Deed Stop) → result ≡ deed_due due (date_of_tree Bind start_date binding) → IsDeedIn spec bind result
-      with_binding binding there result e = (Ok tree, given, subst (λ (d : Result ℤ Stop). IsDeedDue d bind result) is (binding, there, e))
-
-pub as_told : (given : Result ℤ Stop) (why : Stop) → Err why ≡ given → IsToldAs (λ (d : Result ℤ Stop). d ≡ given) (Err why)
-as_told given (stop.Refused r) e = e
-as_told given stop.ReadFault e = tt
-as_told given stop.Memory e = tt
-
-abbrev dated_at : ℤ → Result ℤ Stop
-dated_at date = Ok date
-
-pub found_dated : (P : ℤ → Type 0) (date : Option ℤ) (found : ℤ) → IfSome date P → Ok found ≡ date_or_refusal Bind date → P found
-found_dated P (Some date) found p e = let same : found ≡ date = same_date found date e in subst P (sym same) p
-  where
-    same_date : (x y : ℤ) → dated_at x ≡ dated_at y → x ≡ y
-    same_date x y h = cc
-found_dated P None found p e = absurd cc
+    module _ (binding : BindTree) (there : IsBindingIn bind (Ok binding)) where
+      pub with_binding : (result : Result Deed Stop) → IsToldAs (λ (deed : Result Deed Stop). deed ≡ bound tree (Ok binding)) result
+          → IsToldAs (IsDeedIn spec bind) result
+      with_binding (Ok deed) is = (Ok tree, given, (Ok binding, there, is))
+      with_binding (Err (stop.Refused refusal)) is = (Ok tree, given, (Ok binding, there, is))
+      with_binding (Err stop.ReadFault) is = tt
+      with_binding (Err stop.Memory) is = tt

@@ -1,6 +1,5 @@
 pub mod Commands
 pub mod ExitNumbers
-pub mod FirstPath
 pub mod Machine
 pub mod Outcomes
 pub mod Output

@@ -1,5 +1,3 @@
-pub mod Course
-pub mod Holding
 pub mod Replies
 pub mod Stopping
 pub mod Stream

@@ -6,7 +6,7 @@ use Rattle.sy_print.specs.CanonicalText.{canonical_text}
 use Rattle.sy_spec.specs.declared.contract.SpecTree.{SpecTree}
 use Rattle.sy_typing.specs.Plans.{order_text}
 use Rattle.sy_run.specs.Commands.{Command, Compile, Monitor, Unknown, usage_line}
-use Rattle.sy_run.specs.Output.{output, is_refused}
+use Rattle.sy_run.specs.Output.{IsOutputOf}
 use Rattle.sy_report.specs.RefusalText.{refusal_text}
 use Rattle.sy_run.specs.Texts.{IsDeedIn, IsSoundSpecIn}
 use Rattle.sy_run.specs.World.{World}
@@ -44,9 +44,11 @@ end_of true = Stopped
 end_of false = Finished
 
 -- the outcome of a log, where the files give this
-abbrev pub monitored : Result Deed Stop → List ℕ → Outcome
-monitored (Ok d) log = record { text = output d [] 1 (lines_of log); end = end_of (is_refused d [] 1 (lines_of log)) }
-monitored (Err why) log = stopped why
+abbrev pub IsMonitored : Result Deed Stop → List ℕ → Outcome → Type 0
+IsMonitored (Ok deed) log outcome =
+    (text : List ℕ) × (is_refused : Bool) × IsOutputOf deed (lines_of log) text is_refused
+    × (outcome ≡ record { text = text; end = end_of is_refused })
+IsMonitored (Err why) log outcome = outcome ≡ stopped why
 
 -- the outcome of words that are no command
 abbrev pub usage : Outcome
@@ -65,16 +67,16 @@ abbrev pub IsOutcome : Command → World → Outcome → Type 0
 IsOutcome (Compile spec) world outcome = (tree : Result SpecTree Stop) × GivesSpec world spec tree × (outcome ≡ compiled tree)
 IsOutcome (Monitor spec bind) world outcome =
     (deed : Result Deed Stop) × GivesDeed world spec bind deed
-    × ((log : List ℕ) × (world.left ≡ Some log) × (outcome ≡ monitored deed log))
+    × ((log : List ℕ) × (world.left ≡ Some log) × IsMonitored deed log outcome)
 IsOutcome Unknown world outcome = outcome ≡ usage
 
 -- all that the whole lines of a log ask for, where the files give this
-abbrev pub asked_by_lines : Result Deed Stop → List ℕ → List ℕ
-asked_by_lines (Ok d) taken = output d [] 1 (whole_lines_of taken)
-asked_by_lines (Err why) taken = []
+abbrev pub IsAskedByLines : Result Deed Stop → List ℕ → List ℕ → Type 0
+IsAskedByLines (Ok deed) taken text = (is_refused : Bool) × IsOutputOf deed (whole_lines_of taken) text is_refused
+IsAskedByLines (Err why) taken text = text ≡ []
 
 -- all that the bytes ask for that a command has taken from the input
 abbrev pub IsAskedFor : Command → World → List ℕ → List ℕ → Type 0
 IsAskedFor (Monitor spec bind) world taken text =
-    ((deed : Result Deed Stop) × GivesDeed world spec bind deed × (text ≡ asked_by_lines deed taken)) ⊎ ((taken ≡ []) × (text ≡ []))
+    ((deed : Result Deed Stop) × GivesDeed world spec bind deed × IsAskedByLines deed taken text) ⊎ ((taken ≡ []) × (text ≡ []))
 IsAskedFor command world taken text = text ≡ []

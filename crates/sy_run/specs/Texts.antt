@@ -1,8 +1,8 @@
 -- What the texts of files give.
-use Rattle.std.specs.Prelude.{◌≡◌, ℕ, nat_lt, if◌then◌else◌, List, length, Option, None, Some, Result, Ok, Err, ℤ}
+use Rattle.std.specs.Prelude.{◌≡◌, ℕ, nat_lt, if◌then◌else◌, List, length, Option, None, Some, Result, Ok, Err}
 use Rattle.sy_base.specs.declared.refusal.FileKind.{FileKind}
 use Rattle.sy_base.specs.declared.refusal.FileKind.TheVariants.{Spec, Bind}
-use Rattle.sy_base.specs.declared.refusal.FaultName.TheVariants.{NotYet, TooBig}
+use Rattle.sy_base.specs.declared.refusal.FaultName.TheVariants.{TooBig}
 use Rattle.sy_base.specs.declared.refusal.Refusal.{Refusal}
 use Rattle.sy_base.specs.declared.refusal.Refused.TheVariants as R
 use Rattle.sy_core.specs.declared.deed.Deed.{Deed}
@@ -14,7 +14,7 @@ use Rattle.sy_lex.specs.Lexemes.{Lexeme, lexemes_of}
 use Rattle.sy_spec.specs.Spelling.{SpellsSpec}
 use Rattle.sy_binding.specs.Spelling.{SpellsBinding}
 use Rattle.sy_reader.specs.Faults.{IsSyntaxFault}
-use Rattle.sy_run.specs.FirstPath.{due_date, start_date, deed}
+use Rattle.sy_bind.specs.Deeds.{bind_fault, deed_of}
 use Rattle.sy_report.specs.RefusalText.{whole}
 use Rattle.sy_typing.specs.Plans.{spec_fault}
 use Rattle.sy_run.specs.declared.stop.Stop.{Stop}
@@ -63,28 +63,20 @@ IsSoundSpecIn told result = (tree : Result SpecTree Stop) × IsSpecIn told tree 
 abbrev pub IsBindingIn : Option (List ℕ) → Result BindTree Stop → Type 0
 IsBindingIn told result = IsTreeOf Bind SpellsBinding (bytes_in Bind told) result
 
--- a date that a tree has, or the refusal of one that isn't followed yet
-abbrev pub date_or_refusal : FileKind → Option ℤ → Result ℤ Stop
-date_or_refusal file (Some date) = Ok date
-date_or_refusal file None = Err (stop.Refused (whole file NotYet))
+-- the deed of an accepted specification and a binding, or the refusal of the binding
+abbrev pub deed_or_refusal : SpecTree → BindTree → Option Refusal → Result Deed Stop
+deed_or_refusal spec tree None = Ok (deed_of spec tree)
+deed_or_refusal spec tree (Some refusal) = Err (stop.Refused refusal)
 
-abbrev pub date_of_tree : {A : Type 0} → FileKind → (A → Option ℤ) → Result A Stop → Result ℤ Stop
-date_of_tree file date_of (Ok tree) = date_or_refusal file (date_of tree)
-date_of_tree file date_of (Err why) = Err why
-
--- the deed, once the due date is known
-abbrev pub deed_due : ℤ → Result ℤ Stop → Result Deed Stop
-deed_due due (Ok start) = Ok (deed start due)
-deed_due due (Err why) = Err why
+abbrev pub bound : SpecTree → Result BindTree Stop → Result Deed Stop
+bound spec (Ok tree) = deed_or_refusal spec tree (bind_fault spec tree)
+bound spec (Err why) = Err why
 
 -- the binding is read only once the specification is accepted
-abbrev pub IsDeedDue : Result ℤ Stop → Option (List ℕ) → Result Deed Stop → Type 0
-IsDeedDue (Ok due) bind result =
-    (binding : Result BindTree Stop) × IsBindingIn bind binding
-    × (result ≡ deed_due due (date_of_tree Bind start_date binding))
-IsDeedDue (Err why) bind result = result ≡ Err why
+abbrev pub IsDeedOf : Result SpecTree Stop → Option (List ℕ) → Result Deed Stop → Type 0
+IsDeedOf (Ok spec) bind result = (tree : Result BindTree Stop) × IsBindingIn bind tree × (result ≡ bound spec tree)
+IsDeedOf (Err why) bind result = result ≡ Err why
 
 -- the deed of a specification and a binding, or how their files end the run
 abbrev pub IsDeedIn : Option (List ℕ) → Option (List ℕ) → Result Deed Stop → Type 0
-IsDeedIn spec bind result =
-    (tree : Result SpecTree Stop) × IsSpecIn spec tree × IsDeedDue (date_of_tree Spec due_date tree) bind result
+IsDeedIn spec bind result = (tree : Result SpecTree Stop) × IsSoundSpecIn spec tree × IsDeedOf tree bind result

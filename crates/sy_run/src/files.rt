@@ -2,19 +2,16 @@ ghost use Rattle.std.specs.Prelude.{◌≡◌, ◌<◌, ◌^◌, ℕ, List, leng
 ghost use Rattle.std.specs.declared.option.Option.{Option};
 ghost use Rattle.sy_outside.specs.Outside.{CauseOf};
 ghost use Rattle.sy_base.specs.declared.refusal.FileKind.TheVariants as kind;
-ghost use Rattle.sy_base.specs.Points.{IsDated};
-ghost use Rattle.sy_base.specs.declared.time.TimeUnit.TheVariants.{Day};
+ghost use Rattle.sy_core.specs.Soundness.{IsSound};
 ghost use Rattle.sy_binding.specs.Spelling.{SpellsBinding};
 ghost use Rattle.sy_spec.specs.Spelling.{SpellsSpec};
-ghost use Rattle.sy_run.specs.FirstPath as first;
-ghost use Rattle.sy_run.specs.FirstPath.{IsFirstDeed};
 ghost use Rattle.sy_run.specs.Machine.Stopping.{IsToldAs, NoReadStop, is_read_stop};
-ghost use Rattle.sy_run.specs.Texts.{IsBindingIn, IsDeedIn, IsSoundSpecIn, IsSpecIn, IsTree, bytes_in, checked, date_or_refusal};
+ghost use Rattle.sy_run.specs.Texts.{IsBindingIn, IsDeedIn, IsSoundSpecIn, IsSpecIn, IsTree, bound, bytes_in, checked};
 
-use crate::first_path::{deed, due_date, start_date};
 use crate::stop::Stop;
 use std::alloc::Global;
-use sy_base::{FaultName, FileKind, Point, Text};
+use sy_base::{FaultName, FileKind, Text};
+use sy_bind::deed;
 use sy_binding::{BindTree, binding};
 use sy_core::Deed;
 use sy_lex::tokens;
@@ -94,6 +91,8 @@ pub(crate) fn read_plan<F: Files>(alloc: Global, files: &mut F, name: &Text) -> 
     requires { IsTrue (F.lent files.old name.now) }
     ensures told { (told : Option (List ℕ)) → F.told files.old name.now ≡ Some told → IsToldAs (IsSoundSpecIn told) result }
     ensures cause { CauseOf is_read_stop (F.faults files.old) (F.faults files.new) result }
+    ensures lent { (n : List ℕ) → F.lent files.new n ≡ F.lent files.old n }
+    ensures tells { (n : List ℕ) → F.told files.new n ≡ F.told files.old n }
 {
     match read_spec(alloc, files, name) {
         Ok(tree) => plan_of(alloc, tree),
@@ -111,24 +110,16 @@ fn read_binding<F: Files>(alloc: Global, files: &mut F, name: &Text) -> Result<B
     binding_of(alloc, text.bytes())
 }
 
-/// A date that was found in a tree, or the refusal of one that isn't followed yet.
-fn found(alloc: Global, file: FileKind, date: Option<Point>) -> Result<Point, Stop>
-    ensures { result ≡ date_or_refusal file date }
-{
-    match date {
-        Some(date) => Ok(date),
-        None => Err(Stop::Refused(whole(alloc, file, FaultName::NotYet))),
-    }
-}
-
-/// The due date of a specification.
-fn due_date_of(alloc: Global, tree: &SpecTree) -> Result<Point, Stop>
-    ensures told { IsToldAs (λ date. date ≡ date_or_refusal kind.Spec (first.due_date tree.now)) result }
-    ensures dated { IfOk result (IsDated Day) }
+/// The deed of an accepted specification and a binding that was read.
+fn deed_of(alloc: Global, plan: &Plan, tree: &BindTree) -> Result<Deed, Stop>
+    ensures told { IsToldAs (λ deed. deed ≡ bound plan.now (Ok tree.now)) result }
+    ensures sound { IfOk result IsSound }
     ensures cause { NoReadStop result }
 {
-    let date = due_date(alloc, tree)?;
-    found(alloc, FileKind::Spec, date)
+    match deed(alloc, plan, tree) {
+        Ok(deed) => Ok(deed),
+        Err(why) => Err(Stop::from(why)),
+    }
 }
 
 /// The deed of a specification and its binding. The binding is read only once the specification is
@@ -142,12 +133,10 @@ pub(crate) fn read_deed<F: Files>(
     requires spec { IsTrue (F.lent files.old spec.now) }
     requires bind { IsTrue (F.lent files.old bind.now) }
     ensures told { (s b : Option (List ℕ)) → F.told files.old spec.now ≡ Some s → F.told files.old bind.now ≡ Some b → IsToldAs (IsDeedIn s b) result }
-    ensures first { IfOk result IsFirstDeed }
+    ensures sound { IfOk result IsSound }
     ensures cause { CauseOf is_read_stop (F.faults files.old) (F.faults files.new) result }
 {
-    let tree = read_spec(alloc, files, spec)?;
-    let due = due_date_of(alloc, &tree)?;
-    let binding = read_binding(alloc, files, bind)?;
-    let start = found(alloc, FileKind::Bind, start_date(&binding))?;
-    Ok(deed(alloc, start, due)?)
+    let plan = read_plan(alloc, files, spec)?;
+    let tree = read_binding(alloc, files, bind)?;
+    deed_of(alloc, &plan, &tree)
 }

@@ -3,17 +3,15 @@
 #![tactic(auto)]
 
 mod compile;
-mod course;
-mod entries;
 mod files;
-mod first_path;
 mod log;
 mod monitor;
+mod output_law;
 mod status;
 mod stop;
 mod stream;
-mod table;
 mod top;
 
+pub use output_law::logs_have_one_output;
 pub use status::Status;
 pub use top::run;

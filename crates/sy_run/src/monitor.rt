@@ -1,10 +1,9 @@
 ghost use Rattle.std.specs.Prelude.{◌≡◌, ℕ, List, IsTrue, Some};
+ghost use Rattle.sy_core.specs.Soundness.{IsSound};
 ghost use Rattle.sy_run.specs.Commands as command;
-ghost use Rattle.sy_run.specs.FirstPath.{IsFirstDeed};
 ghost use Rattle.sy_run.specs.Machine.Stream.{IsReadingStatus, StreamCaused, StreamEnds};
 ghost use Rattle.sy_run.specs.Run.{IsRun};
 
-use crate::entries::Entries;
 use crate::files::read_deed;
 use crate::log::Log;
 use crate::status::Status;
@@ -13,24 +12,25 @@ use crate::stream::stream;
 use std::alloc::Global;
 use sy_base::Text;
 use sy_core::Deed;
+use sy_monitor::Monitor;
 use sy_outside::{Files, LineReader, Sink, Source};
 
 /// Follows a deed along the log on the input.
-fn follow<S: Source, W: Sink>(alloc: Global, deed: &Deed, input: &mut S, out: &mut W) -> Status
-    requires { IsFirstDeed deed.now }
+fn follow<S: Source, W: Sink>(alloc: Global, deed: Deed, input: &mut S, out: &mut W) -> Status
+    requires { IsSound deed }
     ensures told { (bytes : List ℕ) → S.left input.old ≡ Some bytes
-        → StreamEnds deed.now bytes (S.left input.new) (W.held out.old) (W.held out.new) result }
+        → StreamEnds deed bytes (S.left input.new) (W.held out.old) (W.held out.new) result }
     ensures cause { StreamCaused (S.faults input.old) (S.faults input.new) (W.faults out.old) (W.faults out.new) result }
     ensures status { IsReadingStatus result }
 {
     let Ok(mut reader) = LineReader::new(alloc) else {
         return Status::Memory;
     };
-    let mut log = Log {
-        entries: Entries::new(alloc),
-        lines: 0,
+    let Ok(monitor) = Monitor::new(alloc, deed) else {
+        return Status::Memory;
     };
-    stream(alloc, deed, &mut log, &mut reader, input, out)
+    let mut log = Log { monitor, lines: 0 };
+    stream(alloc, &mut log, &mut reader, input, out)
 }
 
 /// The command `monitor SPEC BIND`: follows the contract of a specification and its binding along
@@ -50,7 +50,7 @@ pub(crate) fn monitor<F: Files, S: Source, W: Sink>(
         (record { file = F.told files.new; left = S.left input.new; held = W.held out.new; file_faults = F.faults files.new; input_faults = S.faults input.new; output_faults = W.faults out.new }) result }
 {
     match read_deed(alloc, files, spec, bind) {
-        Ok(deed) => follow(alloc, &deed, input, out),
+        Ok(deed) => follow(alloc, deed, input, out),
         Err(why) => end(alloc, &why, out),
     }
 }

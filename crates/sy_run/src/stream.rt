@@ -1,8 +1,8 @@
 ghost use Rattle.std.specs.Prelude.{◌≡◌, ◌+◌, List, [], ℕ, IfNone, IfSome, Some};
 ghost use Rattle.std.specs.declared.option.Option.{Option};
 ghost use Rattle.sy_outside.specs.LineReaderState.{new_line_reader};
-ghost use Rattle.sy_run.specs.FirstPath.{IsFirstDeed};
-ghost use Rattle.sy_run.specs.Machine.Holding.{Holds};
+ghost use Rattle.sy_core.specs.declared.deed.Deed.{Deed};
+ghost use Rattle.sy_run.specs.Machine.Replies.{Follows};
 ghost use Rattle.sy_run.specs.Machine.Stream.{AfterLine, CausedIf, IsReadingStatus, IsReady, SoFar, StreamCaused, StreamEnds, WritesReply};
 
 use crate::log::{Log, reply_next};
@@ -10,7 +10,6 @@ use crate::status::Status;
 use crate::stop::end;
 use std::alloc::Global;
 use sy_base::Text;
-use sy_core::Deed;
 use sy_outside::{LineReader, Sink, Source, write_all};
 
 /// Writes what is answered to a line. It answers a status where the stream ends.
@@ -27,23 +26,21 @@ fn write_reply<W: Sink>(text: &Text, out: &mut W) -> Option<Status>
 /// Answers the next line. It answers a status where the stream ends.
 fn one_line<S: Source, W: Sink>(
     alloc: Global,
-    deed: &Deed,
     log: &mut Log,
     reader: &mut LineReader,
     input: &mut S,
     out: &mut W,
 ) -> Option<Status>
-    requires first { IsFirstDeed deed.now }
     requires ready { IsReady reader.old log.old.lines }
-    ensures told { (bytes : List ℕ) (first : Option (List ℕ))
-        → SoFar deed.now log.old.entries.points reader.old bytes (S.left input.old) first (W.held out.old)
-        → AfterLine deed.now log.new.entries.points reader.new bytes (S.left input.new) first (W.held out.new) result }
+    ensures told { (deed : Deed) (bytes : List ℕ) (first : Option (List ℕ))
+        → SoFar deed log.old.monitor reader.old bytes (S.left input.old) first (W.held out.old)
+        → AfterLine deed log.new.monitor reader.new bytes (S.left input.new) first (W.held out.new) result }
     ensures cause { CausedIf (S.faults input.old) (S.faults input.new) (W.faults out.old) (W.faults out.new) result }
     ensures ready { IfNone result (IsReady reader.new log.new.lines) }
     ensures ascends { IfNone result (log.new.lines ≡ log.old.lines + 1) }
     ensures status { IfSome result IsReadingStatus }
 {
-    match reply_next(alloc, deed, log, reader, input) {
+    match reply_next(alloc, log, reader, input) {
         Ok(Some(text)) => write_reply(&text, out),
         Ok(None) => Some(Status::Done),
         Err(why) => Some(end(alloc, &why, out)),
@@ -53,23 +50,21 @@ fn one_line<S: Source, W: Sink>(
 /// Answers each line of the input, up to its end or to the first refusal.
 pub(crate) fn stream<S: Source, W: Sink>(
     alloc: Global,
-    deed: &Deed,
     log: &mut Log,
     reader: &mut LineReader,
     input: &mut S,
     out: &mut W,
 ) -> Status
-    requires first { IsFirstDeed deed.now }
     requires new { reader.old ≡ new_line_reader }
-    requires none { Holds log.old.entries.points [] }
+    requires none { log.old.monitor.happened ≡ [] }
     requires counted { log.old.lines ≡ 0 }
     ensures told { (bytes : List ℕ) → S.left input.old ≡ Some bytes
-        → StreamEnds deed.now bytes (S.left input.new) (W.held out.old) (W.held out.new) result }
+        → StreamEnds log.old.monitor.deed bytes (S.left input.new) (W.held out.old) (W.held out.new) result }
     ensures cause { StreamCaused (S.faults input.old) (S.faults input.new) (W.faults out.old) (W.faults out.new) result }
     ensures status { IsReadingStatus result }
 {
     'lines: loop {
-        if let Some(status) = one_line(alloc, deed, log, reader, input, out) {
+        if let Some(status) = one_line(alloc, log, reader, input, out) {
             return status;
         }
     }

@@ -1,6 +1,6 @@
 -- What a run answers to a line of its log, and to the next line of its input.
-use Rattle.std.specs.Prelude.{◌≡◌, ℕ, ℤ, ⊤, true, false, List, [], ◌∷◌, ◌++◌, ◌+◌, ◌^◌, ◌≤◌, Option, None, Some, Result, Ok, Err, IsTrue}
-use Rattle.std.specs.BTreeSet.{BTreeSet}
+use Rattle.std.specs.Prelude.{◌≡◌, ◌↔◌, ℕ, ⊤, false, length, List, [], ◌∷◌, ◌++◌, ◌+◌, ◌^◌, ◌≤◌, Option, None, Some, Result, Ok, Err, IsTrue}
+use Rattle.std.specs.List.{Contains}
 use Rattle.sy_outside.specs.Lines.{lines_of, has_newline}
 use Rattle.sy_outside.specs.LineReaderState.{LineReaderState}
 use Rattle.sy_outside.specs.declared.lines.LineFault.{LineFault}
@@ -9,24 +9,30 @@ use Rattle.sy_base.specs.declared.refusal.FileKind.TheVariants.{Log}
 use Rattle.sy_base.specs.declared.refusal.FaultName.TheVariants.{TooLong, TooManyLines}
 use Rattle.sy_core.specs.declared.deed.Deed.{Deed}
 use Rattle.sy_core.specs.declared.happening.Happening.{Happening}
-use Rattle.sy_run.specs.Machine.Holding.{Holds}
-use Rattle.sy_run.specs.Output.{Reply, reply}
+use Rattle.sy_monitor.specs.Following.{Followed}
+use Rattle.sy_run.specs.Output.{Goes, IsAnswered, Reply, Stops}
 use Rattle.sy_report.specs.RefusalText.{refusal_text, of_line}
 use Rattle.sy_run.specs.declared.stop.Stop.{Stop}
 use Rattle.sy_run.specs.declared.stop.Stop.TheVariants.{ReadFault, Refused, Memory}
 
--- a text is that of a reply which doesn't end the output, and the set then holds what was noted
-pub record IsTextOf (points : BTreeSet ℤ) (defined : Reply) (text : List ℕ) : Type 0 where
-  pub same : text ≡ defined.text
-  pub goes_on : defined.ends ≡ false
-  pub holds : Holds points defined.noted
+-- a monitor follows this deed, and holds just the happenings that were noted, each once
+pub record Follows (monitor : Followed) (deed : Deed) (noted : List Happening) : Type 0 where
+  pub keeps : monitor.deed ≡ deed
+  pub same : (h : Happening) → Contains monitor.happened h ↔ Contains noted h
+  pub counted : length monitor.happened ≡ length noted
 
--- what is answered to a line, whose reply is this
-abbrev pub Replies : BTreeSet ℤ → Reply → Result (List ℕ) Stop → Type 0
-Replies points defined (Ok text) = IsTextOf points defined text
-Replies points defined (Err (Refused refusal)) = (defined.ends ≡ true) × (defined.text ≡ refusal_text refusal)
-Replies points defined (Err ReadFault) = ⊥
-Replies points defined (Err Memory) = ⊤
+-- a text is that of a reply which passes a test and goes on, and the monitor then holds what is noted
+pub record IsTextOf (monitor : Followed) (deed : Deed) (IsGiven : Reply → Type 0) (text : List ℕ) : Type 0 where
+  pub noted : List Happening
+  pub given : IsGiven (Goes text noted)
+  pub follows : Follows monitor deed noted
+
+-- what is answered is a reply that passes a test
+abbrev pub Replies : Followed → Deed → (Reply → Type 0) → Result (List ℕ) Stop → Type 0
+Replies monitor deed IsGiven (Ok text) = IsTextOf monitor deed IsGiven text
+Replies monitor deed IsGiven (Err (Refused refusal)) = IsGiven (Stops (refusal_text refusal))
+Replies monitor deed IsGiven (Err ReadFault) = ⊥
+Replies monitor deed IsGiven (Err Memory) = ⊤
 
 -- why a log goes no further after so many lines
 abbrev pub stop_at : ℕ → LineFault → Stop
@@ -36,14 +42,14 @@ stop_at lines F.TooManyLines = Refused (of_line Log (lines + 1) TooManyLines)
 stop_at lines F.Memory = Memory
 
 -- the next line was answered by this text
-pub record Answers (deed : Deed) (noted : List Happening) (points : BTreeSet ℤ) (old new : LineReaderState) (rest : List ℕ) (left : Option (List ℕ)) (text : List ℕ) : Type 0 where
+pub record Answers (deed : Deed) (noted : List Happening) (monitor : Followed) (old new : LineReaderState) (rest : List ℕ) (left : Option (List ℕ)) (text : List ℕ) : Type 0 where
   pub line : List ℕ
   pub after : List ℕ
   pub tells : left ≡ Some after
   pub synced : IsTrue new.ended → after ≡ []
   pub stays : IsTrue old.ended → IsTrue new.ended
   pub cut : lines_of (old.held ++ rest) ≡ line ∷ lines_of (new.held ++ after)
-  pub reply : IsTextOf points (reply deed noted (old.given + 1) line) text
+  pub reply : IsTextOf monitor deed (IsAnswered deed noted (old.given + 1) line) text
   -- until the end is told, the line had its newline
   pub whole : new.ended ≡ false → old.held ++ rest ≡ line ++ 10 ∷ (new.held ++ after)
   pub one : has_newline line ≡ false
@@ -53,8 +59,7 @@ pub record Refuses (deed : Deed) (noted : List Happening) (old : LineReaderState
   pub line : List ℕ
   pub others : List (List ℕ)
   pub cut : lines_of (old.held ++ rest) ≡ line ∷ others
-  pub ends : (reply deed noted (old.given + 1) line).ends ≡ true
-  pub same : (reply deed noted (old.given + 1) line).text ≡ text
+  pub stops : IsAnswered deed noted (old.given + 1) line (Stops text)
 
 -- a read failed, after some bytes that end no line
 pub record BreaksOff (old : LineReaderState) (rest : List ℕ) (left : Option (List ℕ)) : Type 0 where
@@ -66,12 +71,12 @@ pub record BreaksOff (old : LineReaderState) (rest : List ℕ) (left : Option (L
   pub open_end : old.ended ≡ false
 
 -- what is answered to the next line of an input that is told, after these happenings
-abbrev pub RepliesNext : Deed → List Happening → BTreeSet ℤ → LineReaderState → LineReaderState → List ℕ → Option (List ℕ) → Result (Option (List ℕ)) Stop → Type 0
-RepliesNext deed noted points old new rest left (Ok (Some text)) = Answers deed noted points old new rest left text
-RepliesNext deed noted points old new rest left (Ok None) = old.held ++ rest ≡ []
-RepliesNext deed noted points old new rest left (Err (Refused refusal)) = Refuses deed noted old rest (refusal_text refusal)
-RepliesNext deed noted points old new rest left (Err ReadFault) = BreaksOff old rest left
-RepliesNext deed noted points old new rest left (Err Memory) = ⊤
+abbrev pub RepliesNext : Deed → List Happening → Followed → LineReaderState → LineReaderState → List ℕ → Option (List ℕ) → Result (Option (List ℕ)) Stop → Type 0
+RepliesNext deed noted monitor old new rest left (Ok (Some text)) = Answers deed noted monitor old new rest left text
+RepliesNext deed noted monitor old new rest left (Ok None) = old.held ++ rest ≡ []
+RepliesNext deed noted monitor old new rest left (Err (Refused refusal)) = Refuses deed noted old rest (refusal_text refusal)
+RepliesNext deed noted monitor old new rest left (Err ReadFault) = BreaksOff old rest left
+RepliesNext deed noted monitor old new rest left (Err Memory) = ⊤
 
 -- after a text the reader goes on, and the count of lines is its
 abbrev pub GoesOn : LineReaderState → LineReaderState → ℕ → Result (Option (List ℕ)) Stop → Type 0

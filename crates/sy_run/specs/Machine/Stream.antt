@@ -1,6 +1,5 @@
 -- How a run goes from line to line, where its input is told.
-use Rattle.std.specs.Prelude.{◌≡◌, ℕ, ℤ, ◌+◌, ◌^◌, ◌≤◌, false, List, [], ◌++◌, Option, None, Some, Ok, IsTrue, ⊤, Result}
-use Rattle.std.specs.BTreeSet.{BTreeSet}
+use Rattle.std.specs.Prelude.{◌≡◌, ℕ, ◌+◌, ◌^◌, ◌≤◌, Bool, false, List, [], ◌++◌, Option, None, Some, Ok, IsTrue, ⊤, Result}
 use Rattle.std.specs.Io.KnownBytes.{Appends}
 use Rattle.sy_outside.specs.Lines.{lines_of, whole_lines_of}
 use Rattle.sy_outside.specs.Outside.{RoseSince}
@@ -9,9 +8,10 @@ use Rattle.sy_outside.specs.Writing.{AppendsProperPrefix}
 use Rattle.sy_base.specs.declared.refusal.Refusal.{Refusal}
 use Rattle.sy_core.specs.declared.deed.Deed.{Deed}
 use Rattle.sy_core.specs.declared.happening.Happening.{Happening}
-use Rattle.sy_run.specs.Machine.Holding.{Holds}
-use Rattle.sy_run.specs.Output.{output, is_refused}
-use Rattle.sy_run.specs.Outcomes.{monitored, asked_by_lines}
+use Rattle.sy_monitor.specs.Following.{Followed}
+use Rattle.sy_run.specs.Machine.Replies.{Follows}
+use Rattle.sy_run.specs.Output.{IsOutput, IsOutputOf}
+use Rattle.sy_run.specs.Outcomes.{IsAskedByLines, IsMonitored, Outcome}
 use Rattle.sy_run.specs.Run.{Ends}
 use Rattle.sy_report.specs.RefusalText.{refusal_text}
 use Rattle.sy_run.specs.declared.stop.Stop.{Stop}
@@ -62,21 +62,21 @@ WritesReply old new text (Some WriteFault) = AppendsProperPrefix old new text
 WritesReply old new text (Some status) = ⊥
 
 -- what was written so far and what is to come are what all the bytes give
-pub record SoFar (deed : Deed) (points : BTreeSet ℤ) (reader : LineReaderState) (bytes : List ℕ) (left first held : Option (List ℕ)) : Type 0 where
+pub record SoFar (deed : Deed) (monitor : Followed) (reader : LineReaderState) (bytes : List ℕ) (left first held : Option (List ℕ)) : Type 0 where
   pub rest : List ℕ
   pub tells : left ≡ Some rest
   pub synced : IsTrue reader.ended → rest ≡ []
   -- the happenings that were noted
   pub noted : List Happening
-  pub holds : Holds points noted
+  pub follows : Follows monitor deed noted
   -- the lines that were read
   pub lines : List (List ℕ)
   pub cut : lines_of bytes ≡ lines ++ lines_of (reader.held ++ rest)
   -- the bytes that were written for them
   pub piece : List ℕ
   pub appended : Appends first held piece
-  pub says : (more : List (List ℕ)) → output deed [] 1 (lines ++ more) ≡ piece ++ output deed noted (reader.given + 1) more
-  pub refuses : (more : List (List ℕ)) → is_refused deed [] 1 (lines ++ more) ≡ is_refused deed noted (reader.given + 1) more
+  pub says : (more : List (List ℕ)) (text : List ℕ) (is_refused : Bool) → IsOutput deed noted (reader.given + 1) more text is_refused
+      → IsOutputOf deed (lines ++ more) (piece ++ text) is_refused
   -- until the end is told, these are the bytes of those lines, newlines and all
   pub front : List ℕ
   pub split : reader.ended ≡ false → bytes ≡ front ++ (reader.held ++ rest)
@@ -84,18 +84,18 @@ pub record SoFar (deed : Deed) (points : BTreeSet ℤ) (reader : LineReaderState
 
 -- where a read failed, all that the whole lines of the bytes that were taken ask for was written
 abbrev pub WroteAllRead : Option (List ℕ) → Option (List ℕ) → Result Deed Stop → List ℕ → Status → Type 0
-WroteAllRead old new files taken ReadFault = Appends old new (asked_by_lines files taken)
+WroteAllRead old new files taken ReadFault = (text : List ℕ) × IsAskedByLines files taken text × Appends old new text
 WroteAllRead old new files taken status = ⊤
 
 -- how a stream ends whose bytes are told: as its outcome says, and after a failed read all that was read was answered
 pub record StreamEnds (deed : Deed) (bytes : List ℕ) (left first held : Option (List ℕ)) (status : Status) : Type 0 where
-  pub ends : Ends first held (monitored (Ok deed) bytes) status
+  pub ends : (outcome : Outcome) × IsMonitored (Ok deed) bytes outcome × Ends first held outcome status
   pub all_read : (taken rest : List ℕ) → left ≡ Some rest → bytes ≡ taken ++ rest → WroteAllRead first held (Ok deed) taken status
 
 -- a stream goes on, or ends
-abbrev pub AfterLine : Deed → BTreeSet ℤ → LineReaderState → List ℕ → Option (List ℕ) → Option (List ℕ) → Option (List ℕ) → Option Status → Type 0
-AfterLine deed points reader bytes left first held None = SoFar deed points reader bytes left first held
-AfterLine deed points reader bytes left first held (Some status) = StreamEnds deed bytes left first held status
+abbrev pub AfterLine : Deed → Followed → LineReaderState → List ℕ → Option (List ℕ) → Option (List ℕ) → Option (List ℕ) → Option Status → Type 0
+AfterLine deed monitor reader bytes left first held None = SoFar deed monitor reader bytes left first held
+AfterLine deed monitor reader bytes left first held (Some status) = StreamEnds deed bytes left first held status
 
 -- the causes of how a stream ends
 abbrev pub StreamCaused : ℕ → ℕ → ℕ → ℕ → Status → Type 0

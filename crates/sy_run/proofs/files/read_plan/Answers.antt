@@ -1,4 +1,3 @@
-use Rattle.std.proofs.Common.{Ok}
 use Rattle.sy_run.proofs.Planned.{not_read, sound_or_refused}
 use Rattle.sy_run.proofs.files.read_plan.Goals as goal
 

@@ -11,8 +11,8 @@ lines-init g c = record {
   };
   read = refl;
   written = refl;
-  told = λ bytes was. begins c.args.deed.now c.args.log.now.entries.points c.args.reader.now bytes (g.S.Source.left c.args.input.now) (g.W.Sink.held c.args.out.now) c.requires.new was c.requires.none;
+  told = λ bytes was. begins c.args.log.now.monitor c.args.reader.now bytes (g.S.Source.left c.args.input.now) (g.W.Sink.held c.args.out.now) c.requires.new was c.requires.none;
 }
 
 pub returns-in-Some-clause-told : goal.returns-in-Some-clause-told
-returns-in-Some-clause-told g c = λ bytes was. c.in-Some.ensures.told bytes (g.W.Sink.held c.args.out.now) (c.lines.invariant.told bytes was)
+returns-in-Some-clause-told g c = λ bytes was. c.in-Some.ensures.told c.args.log.now.monitor.deed bytes (g.W.Sink.held c.args.out.now) (c.lines.invariant.told bytes was)

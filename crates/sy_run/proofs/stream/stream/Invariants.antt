@@ -7,7 +7,7 @@ invariant-lines g l = record {
   ready : IsReady l.reader l.log.lines;
   read : g.S.Source.faults l.input ≡ g.S.Source.faults l.initial.input;
   written : g.W.Sink.faults l.out ≡ g.W.Sink.faults l.initial.out;
-  told : (bytes : List ℕ) → g.S.Source.left l.initial.input ≡ Some bytes → SoFar l.deed l.log.entries.points l.reader bytes (g.S.Source.left l.input) (g.W.Sink.held l.initial.out) (g.W.Sink.held l.out);
+  told : (bytes : List ℕ) → g.S.Source.left l.initial.input ≡ Some bytes → SoFar l.initial.log.monitor.deed l.log.monitor l.reader bytes (g.S.Source.left l.input) (g.W.Sink.held l.initial.out) (g.W.Sink.held l.out);
 }
 
 -- there are at most 2 ^ 32 lines
