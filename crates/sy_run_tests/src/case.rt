@@ -7,6 +7,21 @@ use sy_base::{List, Memory, Text};
 use sy_outside::{MemFiles, MemSink, MemSource, Named, Steps};
 use sy_run::{Status, run};
 
+/// The report of the sale of meat before its start.
+pub const FORM: &str = "\
+report 2024-02-29
+contract Form
+obligation oDeliver Null
+obligation oPay Null
+obligation oLate Null
+surviving oSecret Null
+power pHold Null
+power pGo Null
+power pEnd Null
+post 1 Open
+end
+";
+
 /// What a run is given: its words, its files, its input in pieces of at most so many bytes, and the
 /// numbers of the calls that are to fail, or 0 for none.
 #[derive(Clone, Copy)]

@@ -1,7 +1,7 @@
-use crate::case::{Case, outcome};
+use crate::case::{Case, FORM, outcome};
 use std::test::Fail;
 use sy_run::Status;
-use sy_samples::{s, s_bind};
+use sy_samples::{m, m_bind, s, s_bind};
 
 /// Three reports, of 18 bytes a line.
 const LOG: &[u8] = b"report 2024-02-29\nreport 2024-02-29\nreport 2024-02-29\n";
@@ -53,6 +53,24 @@ fn a_failed_write_ends_the_run(rt: HostRuntime) -> Result<(), Fail> {
         assert_eq!(rt; ran.status, Status::WriteFault);
         assert_eq!(rt; ran.out.bytes(), &THREE[..(call as usize - 1) * REPORT]);
     }
+    Ok(())
+}
+
+#[test]
+fn what_was_reported_before_a_failed_write_stays(rt: HostRuntime) -> Result<(), Fail> {
+    let case = Case {
+        words: &[b"monitor", b"SPEC", b"BIND"],
+        spec: m(),
+        bind: m_bind(),
+        input: b"report 2024-02-29\nreport 2024-03-01\nreport 2024-03-02\n",
+        most: 100_000,
+        failing_read_of_file: 0,
+        failing_read: 0,
+        failing_write: 2,
+    };
+    let ran = outcome(rt.alloc(), &case)?;
+    assert_eq!(rt; ran.status, Status::WriteFault);
+    assert_eq!(rt; ran.out.bytes(), FORM.as_bytes());
     Ok(())
 }
 

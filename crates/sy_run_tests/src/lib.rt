@@ -7,4 +7,6 @@ mod case;
 #[cfg(test)]
 mod faults;
 #[cfg(test)]
+mod lines;
+#[cfg(test)]
 mod rows;

@@ -3,104 +3,12 @@ use std::alloc::Global;
 use std::test::Fail;
 use sy_base::Memory;
 use sy_run::Status;
-use sy_samples::{m, s, s_bind, s_compiled, t};
+use sy_samples::{m, m_bind, s, s_bind, s_compiled, t};
 
 const MONITOR: &[&[u8]] = &[b"monitor", b"SPEC", b"BIND"];
 
 const USAGE: &[u8] =
     b"usage: symboleo compile SPEC | monitor SPEC BIND | check SPEC BIND PROPS BUDGET | certify SPEC BIND PROPS NAME BUDGET | verify SPEC BIND PROPS NAME | replay SPEC BIND PROPS NAME | make SEED COUNT\n";
-
-const KEPT: &[u8] =
-    b"report 2024-03-10\ncontract SuccessfulTermination\nobligation oPay Fulfillment\nend\n";
-
-const BROKEN: &[u8] =
-    b"report 2024-03-11\ncontract InEffect\nobligation oPay Violation\nviolation 2024-03-11 oPay\nend\n";
-
-const EARLY: &[u8] = b"report 2024-02-29\ncontract Form\nobligation oPay Null\nend\n";
-
-#[test]
-fn logs_are_answered(rt: HostRuntime) -> Result<(), Fail> {
-    let table: [(&[u8], Status, &[u8]); 14] = [
-        (b"", Status::Done, b""),
-        (
-            b"at 2024-03-10 happens paid\nreport 2024-03-10\n",
-            Status::Done,
-            KEPT,
-        ),
-        (b"report 2024-03-11", Status::Done, BROKEN),
-        (b"report 2024-02-29\n", Status::Done, EARLY),
-        // Paid on the due date is too late, and what comes later changes nothing.
-        (
-            b"at 2024-03-11 happens paid\nreport 2024-03-11\n",
-            Status::Done,
-            BROKEN,
-        ),
-        (
-            b"at 2024-03-12 happens paid\nreport 2024-03-11\n",
-            Status::Done,
-            BROKEN,
-        ),
-        // Neither the order of entries counts, nor how often one stands there.
-        (
-            b"\nat 2024-03-20 happens paid\nat 2024-03-10 happens paid\nat 2024-03-10 happens paid\nreport 2024-03-10",
-            Status::Done,
-            KEPT,
-        ),
-        (
-            b"at 2024-02-29 happens paid\n",
-            Status::Refused,
-            b"refused log 1 NotYet\n",
-        ),
-        (
-            b"report 2024-02-29\nat 2024-03-10 happens  paid\nreport 2024-03-11\n",
-            Status::Refused,
-            b"report 2024-02-29\ncontract Form\nobligation oPay Null\nend\nrefused log 2 NotYet\n",
-        ),
-        (
-            b"report 2024-03-0",
-            Status::Refused,
-            b"refused log 1 NotYet\n",
-        ),
-        (
-            b"report 2024-02-30\n",
-            Status::Refused,
-            b"refused log 1 NotYet\n",
-        ),
-        (
-            b"report 3000-01-01\n",
-            Status::Refused,
-            b"refused log 1 NotYet\n",
-        ),
-        (
-            b"report 2024-03-11T00\n",
-            Status::Refused,
-            b"refused log 1 NotYet\n",
-        ),
-        (
-            b"at 2024-03-10 exert pHold\n",
-            Status::Refused,
-            b"refused log 1 NotYet\n",
-        ),
-    ];
-    for (input, status, out) in table {
-        for most in [1, 7, 100_000] {
-            let case = Case {
-                words: MONITOR,
-                spec: s(),
-                bind: s_bind(),
-                input,
-                most,
-                failing_read_of_file: 0,
-                failing_read: 0,
-                failing_write: 0,
-            };
-            let ran = outcome(rt.alloc(), &case)?;
-            assert_eq!(rt; ran.status, status);
-            assert_eq!(rt; ran.out.bytes(), out);
-        }
-    }
-    Ok(())
-}
 
 const COMPILE: &[&[u8]] = &[b"compile", b"SPEC"];
 
@@ -182,13 +90,39 @@ fn a_cycle_is_refused(rt: HostRuntime) -> Result<(), Fail> {
     Ok(())
 }
 
+/// The binding of the sale of meat, without its price.
+const WITHOUT_PRICE: &[u8] = b"\
+start 2024-03-01;
+seller := { name := \"Farm\" };
+buyer := { name := \"Shop\" };
+qnt := 500;
+dueDays := 10;
+";
+
+/// The same, of nothing.
+const OF_NOTHING: &[u8] = b"\
+start 2024-03-01;
+seller := { name := \"Farm\" };
+buyer := { name := \"Shop\" };
+qnt := 0;
+price := 100;
+dueDays := 10;
+";
+
+/// What is written where the words and the files are accepted, and the first line of the log isn't.
+const AT_LAST: &[u8] = b"refused log 1 BadToken\n";
+
 #[test]
 fn words_and_files_are_answered(rt: HostRuntime) -> Result<(), Fail> {
     let spec = Vec::from_slice(rt.alloc(), s())?;
     let bind = Vec::from_slice(rt.alloc(), s_bind())?;
+    let crossed = Vec::from_slice(rt.alloc(), t())?;
+    let sale = Vec::from_slice(rt.alloc(), m())?;
+    let sale_bind = Vec::from_slice(rt.alloc(), m_bind())?;
     let big = vec![in rt.alloc(); b' '; 1_048_577]?;
     let limit = vec![in rt.alloc(); b' '; 1_048_576]?;
-    let table: [(&[&[u8]], &[u8], &[u8], Status, &[u8]); 16] = [
+    // The words come first, then the specification, then the binding, and the log at last.
+    let table: [(&[&[u8]], &[u8], &[u8], Status, &[u8]); 25] = [
         (&[], &spec, &bind, Status::Usage, USAGE),
         (&[b"monitor", b"SPEC"], &spec, &bind, Status::Usage, USAGE),
         (
@@ -199,9 +133,16 @@ fn words_and_files_are_answered(rt: HostRuntime) -> Result<(), Fail> {
             USAGE,
         ),
         (
-            &[b"monitor", b"NONE", b"BIND"],
+            &[b"Monitor", b"NONE", b"NONE"],
             &spec,
             &bind,
+            Status::Usage,
+            USAGE,
+        ),
+        (
+            &[b"monitor", b"NONE", b"BIND"],
+            &spec,
+            b"start",
             Status::ReadFault,
             b"",
         ),
@@ -220,6 +161,13 @@ fn words_and_files_are_answered(rt: HostRuntime) -> Result<(), Fail> {
             b"refused spec 2:1 SyntaxFault\n",
         ),
         (
+            &[b"monitor", b"SPEC", b"NONE"],
+            b"",
+            &bind,
+            Status::Refused,
+            b"refused spec 1:1 SyntaxFault\n",
+        ),
+        (
             MONITOR,
             b"Domain s\nParty isA Role;\nPaid is An Event;\n",
             &bind,
@@ -234,25 +182,61 @@ fn words_and_files_are_answered(rt: HostRuntime) -> Result<(), Fail> {
             b"refused spec 2:3 LexFault\n",
         ),
         (
+            &[b"monitor", b"SPEC", b"NONE"],
+            &crossed,
+            &bind,
+            Status::Refused,
+            b"refused spec 11:1 InstantCycle Trig(o1) End(o2) Trig(o2) End(o1)\n",
+        ),
+        (
+            MONITOR,
+            &crossed,
+            &big,
+            Status::Refused,
+            b"refused spec 11:1 InstantCycle Trig(o1) End(o2) Trig(o2) End(o1)\n",
+        ),
+        (
             MONITOR,
             b"Domain d endDomain Contract C() unit Day endContract",
             &bind,
             Status::Refused,
-            b"refused spec NotYet\n",
+            AT_LAST,
         ),
         (
             MONITOR,
             b"Domain s // the first\nParty isAn Role; Paid isA Event; endDomain Contract S ( ) unit Day Declarations a: Party; b: Party; paid: Paid; Obligations oPay: O(a, b, (true), happensBefore(paid, 2024-03-11)); Powers endContract",
             &bind,
-            Status::Done,
-            b"",
+            Status::Refused,
+            AT_LAST,
+        ),
+        (MONITOR, &sale, &sale_bind, Status::Refused, AT_LAST),
+        (
+            MONITOR,
+            &sale,
+            WITHOUT_PRICE,
+            Status::Refused,
+            b"refused bind MissingParam price\n",
+        ),
+        (
+            MONITOR,
+            &sale,
+            OF_NOTHING,
+            Status::Refused,
+            b"refused spec 18:1 PreconditionFalse qnt\n",
         ),
         (
             MONITOR,
             &spec,
             b"start 2024-03-01;\nprice := 100;\n",
             Status::Refused,
-            b"refused bind NotYet\n",
+            b"refused bind 2:1 ExtraParam price\n",
+        ),
+        (
+            MONITOR,
+            &spec,
+            b"start 2024-02-30;\n",
+            Status::Refused,
+            b"refused bind 1:7 BadDate 2024-02-30\n",
         ),
         (
             MONITOR,
@@ -271,7 +255,7 @@ fn words_and_files_are_answered(rt: HostRuntime) -> Result<(), Fail> {
         (
             MONITOR,
             &limit,
-            &bind,
+            &big,
             Status::Refused,
             b"refused spec 1:1048577 SyntaxFault\n",
         ),
@@ -281,6 +265,13 @@ fn words_and_files_are_answered(rt: HostRuntime) -> Result<(), Fail> {
             &big,
             Status::Refused,
             b"refused bind TooBig\n",
+        ),
+        (
+            MONITOR,
+            &spec,
+            &limit,
+            Status::Refused,
+            b"refused bind 1:1048577 SyntaxFault\n",
         ),
         (
             COMPILE,
@@ -295,7 +286,7 @@ fn words_and_files_are_answered(rt: HostRuntime) -> Result<(), Fail> {
             words,
             spec,
             bind,
-            input: b"",
+            input: b"nonsense\n",
             most: 100,
             failing_read_of_file: 0,
             failing_read: 0,
@@ -305,53 +296,5 @@ fn words_and_files_are_answered(rt: HostRuntime) -> Result<(), Fail> {
         assert_eq!(rt; ran.status, status);
         assert_eq!(rt; ran.out.bytes(), out);
     }
-    Ok(())
-}
-
-#[test]
-fn long_lines_are_refused(rt: HostRuntime) -> Result<(), Fail> {
-    let mut input = vec![in rt.alloc(); b' '; 4096]?;
-    for (out, longer) in [
-        (b"refused log 1 NotYet\n".as_slice(), b' '),
-        (b"refused log 1 TooLong\n".as_slice(), b' '),
-    ] {
-        let case = Case {
-            words: MONITOR,
-            spec: s(),
-            bind: s_bind(),
-            input: &input,
-            most: 100_000,
-            failing_read_of_file: 0,
-            failing_read: 0,
-            failing_write: 0,
-        };
-        let ran = outcome(rt.alloc(), &case)?;
-        assert_eq!(rt; ran.status, Status::Refused);
-        assert_eq!(rt; ran.out.bytes(), out);
-        input.push(longer)?;
-    }
-    Ok(())
-}
-
-#[test]
-fn a_log_of_many_lines_is_answered(rt: HostRuntime) -> Result<(), Fail> {
-    let mut input = Vec::new(rt.alloc());
-    for _line in 0..5_000 {
-        input.extend_from_slice(b"at 2024-03-10 happens paid\n")?;
-    }
-    input.extend_from_slice(b"report 2024-03-10\n")?;
-    let case = Case {
-        words: MONITOR,
-        spec: s(),
-        bind: s_bind(),
-        input: &input,
-        most: 100_000,
-        failing_read_of_file: 0,
-        failing_read: 0,
-        failing_write: 0,
-    };
-    let ran = outcome(rt.alloc(), &case)?;
-    assert_eq!(rt; ran.status, Status::Done);
-    assert_eq!(rt; ran.out.bytes(), KEPT);
     Ok(())
 }
