@@ -17,7 +17,6 @@ file_word F.Words = codes "words"
 
 -- the word of a fault
 abbrev pub fault_word : FaultName → List ℕ
-fault_word N.NotYet = codes "NotYet"
 fault_word N.LexFault = codes "LexFault"
 fault_word N.SyntaxFault = codes "SyntaxFault"
 fault_word N.TooBig = codes "TooBig"

@@ -45,8 +45,6 @@ pub struct Place {
 /// The name of what a text was refused for.
 #[derive(Clone, Copy, Debug, PartialEq, Eq)]
 pub enum FaultName {
-    /// A text that a later version reads.
-    NotYet,
     LexFault,
     SyntaxFault,
     TooBig,
@@ -85,7 +83,6 @@ impl fmt::Display for FaultName {
 
     fn fmt<W: fmt::Write>(&self, f: &mut fmt::Formatter<W>) -> fmt::Result {
         f.write_str(match self {
-            FaultName::NotYet => "NotYet",
             FaultName::LexFault => "LexFault",
             FaultName::SyntaxFault => "SyntaxFault",
             FaultName::TooBig => "TooBig",
