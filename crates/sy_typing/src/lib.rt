@@ -9,8 +9,6 @@ mod outline;
 mod planned;
 mod planning;
 mod positions;
-#[cfg(test)]
-mod tests;
 
 pub use outline::{act_outline, prop_outline};
 pub use planned::Plan;
