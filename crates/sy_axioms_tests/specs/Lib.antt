@@ -1,4 +1,3 @@
 pub mod Crossed
 pub mod MeatSale
 pub mod SaleOrder
-pub mod Watched

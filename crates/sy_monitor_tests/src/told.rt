@@ -10,9 +10,9 @@ use sy_run::{Status, run};
 
 /// The texts of a specification and its binding.
 #[derive(Clone, Copy)]
-pub struct Contract {
-    pub spec: &'static [u8],
-    pub bind: &'static [u8],
+pub struct Contract<'a> {
+    pub spec: &'a [u8],
+    pub bind: &'a [u8],
 }
 
 /// A log under a contract, how a run over it ends, and what it writes.

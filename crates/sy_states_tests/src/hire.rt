@@ -1,551 +1,589 @@
-ghost use Rattle.std.specs.Prelude.{◌≡◌, pos, true, [], ◌∷◌, ◌<◌, ◌^◌, length, IfOk};
-ghost use Rattle.sy_core.specs.Soundness.{HasSoundParts};
-ghost use Rattle.sy_states_tests.specs.Hire as is;
-
-use crate::roles::{before, declared, obligation, power};
-use crate::rows::{Entry, Row, check_row};
-use sqlite_items::Boxed;
-use std::alloc::Global;
 use std::test::Fail;
-use sy_axioms_tests::{event, happens, on};
-use sy_base::{List, Memory, TimeUnit};
-use sy_core::StateOf::{
-    Discharge, Fulfillment as Fulfilled, InEffect, Null, SuccessfulTermination as Succeeded,
-    Suspension, UnsuccessfulTermination as Ended, Violation,
+use sy_monitor_tests::told::{Contract, Row, are_told};
+use sy_run::Status;
+
+/// A hire: a machine is paid for and returned, or else made good by one of three remedies. Two
+/// obligations survive, and the owner's powers act on the contract.
+static HIRE: Contract = Contract {
+    spec: b"\
+Domain hire
+Side isA Role;
+Step isAn Event;
+endDomain
+Contract Hire() unit Day
+Declarations
+tenant: Side;
+owner: Side;
+paid: Step;
+returned: Step;
+feePaid: Step;
+reminded: Step;
+interestPaid: Step;
+damagesPaid: Step;
+disclosed: Step;
+Obligations
+oPay: O(tenant, owner, true, happensBefore(paid, 2024-01-10));
+oReturn: O(tenant, owner, true, happensBefore(returned, 2024-01-15));
+oFee: not happensBefore(violated(oReturn), 2024-01-12) -> O(tenant, owner, true, happensBefore(feePaid, 2024-01-20));
+oInterest: happensAfter(reminded, time(violated(oPay))) -> O(tenant, owner, true, happens(interestPaid));
+Surviving Obligations
+sDamages: happens(violated(oPay)) -> O(tenant, owner, true, happensBefore(damagesPaid, 2024-01-30));
+sSecret: O(tenant, owner, true, not happensBefore(disclosed, 2024-02-19));
+Powers
+pHold: P(owner, tenant, true, suspends(contract));
+pGo: P(owner, tenant, true, resumes(contract));
+pEnd: P(owner, tenant, true, terminates(contract));
+pWaive: P(owner, tenant, true, discharges(oPay));
+endContract
+",
+    bind: b"start 2024-01-01;\n",
 };
-use sy_core::{Base, DateTerm, Deed, Ev, EventDecl, Position, Prop, Target};
-use sy_words::{Form, Kind, Verb};
 
-/// The places of the events in the deed.
-const PAID: u32 = 0;
-
-const RETURNED: u32 = 1;
-
-const FEE_PAID: u32 = 2;
-
-const REMINDED: u32 = 3;
-
-const INTEREST_PAID: u32 = 4;
-
-const DAMAGES_PAID: u32 = 5;
-
-const DISCLOSED: u32 = 6;
-
-/// The places of the positions in the deed.
-const PAY: u32 = 0;
-
-const RETURN: u32 = 1;
-
-const SECRET: u32 = 5;
-
-const HOLD: u32 = 6;
-
-const GO: u32 = 7;
-
-const END: u32 = 8;
-
-const WAIVE: u32 = 9;
-
-/// The rows. Their states are those of oPay, oReturn, oFee, oInterest, sDamages, sSecret, pHold, pGo, pEnd and pWaive.
-static ROWS: [Row; 23] = [
+/// Logs of the hire. Where several names stand above one, they are those of its reports.
+static ROWS: [Row; 19] = [
+    // A surviving remedy.
     Row {
-        name: "a surviving remedy",
-        entries: &[
-            (5, Entry::Event(RETURNED)),
-            (11, Entry::Event(DAMAGES_PAID)),
-        ],
-        day: 11,
-        contract: Succeeded,
-        states: &[
-            Violation, Fulfilled, Null, Null, Fulfilled, InEffect, InEffect, InEffect, InEffect,
-            InEffect,
-        ],
-        violations: &[(10, PAY)],
-        voids: &[],
+        log: "\
+at 2024-01-05 happens returned
+at 2024-01-11 happens damagesPaid
+report 2024-01-11
+",
+        status: Status::Done,
+        told: "\
+report 2024-01-11
+contract SuccessfulTermination
+obligation oPay Violation
+obligation oReturn Fulfillment
+obligation oFee Null
+obligation oInterest Null
+surviving sDamages Fulfillment
+surviving sSecret InEffect
+power pHold InEffect
+power pGo InEffect
+power pEnd InEffect
+power pWaive InEffect
+violation 2024-01-10 oPay
+end
+",
     },
+    // A remedy that names the violation inside time.
     Row {
-        name: "a remedy that names the violation inside time",
-        entries: &[
-            (5, Entry::Event(RETURNED)),
-            (11, Entry::Event(REMINDED)),
-            (11, Entry::Event(INTEREST_PAID)),
-        ],
-        day: 11,
-        contract: Succeeded,
-        states: &[
-            Violation, Fulfilled, Null, Fulfilled, InEffect, InEffect, InEffect, InEffect,
-            InEffect, InEffect,
-        ],
-        violations: &[(10, PAY)],
-        voids: &[],
+        log: "\
+at 2024-01-05 happens returned
+at 2024-01-11 happens reminded
+at 2024-01-11 happens interestPaid
+report 2024-01-11
+",
+        status: Status::Done,
+        told: "\
+report 2024-01-11
+contract SuccessfulTermination
+obligation oPay Violation
+obligation oReturn Fulfillment
+obligation oFee Null
+obligation oInterest Fulfillment
+surviving sDamages InEffect
+surviving sSecret InEffect
+power pHold InEffect
+power pGo InEffect
+power pEnd InEffect
+power pWaive InEffect
+violation 2024-01-10 oPay
+end
+",
     },
+    // Reminded too early.
     Row {
-        name: "reminded too early",
-        entries: &[
-            (5, Entry::Event(RETURNED)),
-            (10, Entry::Event(REMINDED)),
-            (11, Entry::Event(INTEREST_PAID)),
-        ],
-        day: 11,
-        contract: InEffect,
-        states: &[
-            Violation, Fulfilled, Null, Null, InEffect, InEffect, InEffect, InEffect, InEffect,
-            InEffect,
-        ],
-        violations: &[(10, PAY)],
-        voids: &[],
+        log: "\
+at 2024-01-05 happens returned
+at 2024-01-10 happens reminded
+at 2024-01-11 happens interestPaid
+report 2024-01-11
+",
+        status: Status::Done,
+        told: "\
+report 2024-01-11
+contract InEffect
+obligation oPay Violation
+obligation oReturn Fulfillment
+obligation oFee Null
+obligation oInterest Null
+surviving sDamages InEffect
+surviving sSecret InEffect
+power pHold InEffect
+power pGo InEffect
+power pEnd InEffect
+power pWaive InEffect
+violation 2024-01-10 oPay
+end
+",
     },
+    // A remedy that names the violation under not.
     Row {
-        name: "a remedy that names the violation under not",
-        entries: &[(5, Entry::Event(PAID)), (16, Entry::Event(FEE_PAID))],
-        day: 16,
-        contract: Succeeded,
-        states: &[
-            Fulfilled, Violation, Fulfilled, Null, Null, InEffect, InEffect, InEffect, InEffect,
-            InEffect,
-        ],
-        violations: &[(15, RETURN)],
-        voids: &[],
+        log: "\
+at 2024-01-05 happens paid
+at 2024-01-16 happens feePaid
+report 2024-01-16
+",
+        status: Status::Done,
+        told: "\
+report 2024-01-16
+contract SuccessfulTermination
+obligation oPay Fulfillment
+obligation oReturn Violation
+obligation oFee Fulfillment
+obligation oInterest Null
+surviving sDamages Null
+surviving sSecret InEffect
+power pHold InEffect
+power pGo InEffect
+power pEnd InEffect
+power pWaive InEffect
+violation 2024-01-15 oReturn
+end
+",
     },
+    // A remedy, and no violation yet.
+    // Remedied before it is violated.
     Row {
-        name: "a remedy, and no violation yet",
-        entries: &[(5, Entry::Event(PAID)), (13, Entry::Event(FEE_PAID))],
-        day: 14,
-        contract: InEffect,
-        states: &[
-            Fulfilled, InEffect, Fulfilled, Null, Null, InEffect, InEffect, InEffect, InEffect,
-            InEffect,
-        ],
-        violations: &[],
-        voids: &[],
+        log: "\
+at 2024-01-05 happens paid
+at 2024-01-13 happens feePaid
+report 2024-01-14
+report 2024-01-15
+",
+        status: Status::Done,
+        told: "\
+report 2024-01-14
+contract InEffect
+obligation oPay Fulfillment
+obligation oReturn InEffect
+obligation oFee Fulfillment
+obligation oInterest Null
+surviving sDamages Null
+surviving sSecret InEffect
+power pHold InEffect
+power pGo InEffect
+power pEnd InEffect
+power pWaive InEffect
+end
+report 2024-01-15
+contract SuccessfulTermination
+obligation oPay Fulfillment
+obligation oReturn Violation
+obligation oFee Fulfillment
+obligation oInterest Null
+surviving sDamages Null
+surviving sSecret InEffect
+power pHold InEffect
+power pGo InEffect
+power pEnd InEffect
+power pWaive InEffect
+violation 2024-01-15 oReturn
+end
+",
     },
+    // Not remedied.
     Row {
-        name: "remedied before it is violated",
-        entries: &[(5, Entry::Event(PAID)), (13, Entry::Event(FEE_PAID))],
-        day: 15,
-        contract: Succeeded,
-        states: &[
-            Fulfilled, Violation, Fulfilled, Null, Null, InEffect, InEffect, InEffect, InEffect,
-            InEffect,
-        ],
-        violations: &[(15, RETURN)],
-        voids: &[],
+        log: "\
+at 2024-01-05 happens paid
+report 2024-01-16
+",
+        status: Status::Done,
+        told: "\
+report 2024-01-16
+contract InEffect
+obligation oPay Fulfillment
+obligation oReturn Violation
+obligation oFee InEffect
+obligation oInterest Null
+surviving sDamages Null
+surviving sSecret InEffect
+power pHold InEffect
+power pGo InEffect
+power pEnd InEffect
+power pWaive InEffect
+violation 2024-01-15 oReturn
+end
+",
     },
+    // Completed with a discharge.
     Row {
-        name: "not remedied",
-        entries: &[(5, Entry::Event(PAID))],
-        day: 16,
-        contract: InEffect,
-        states: &[
-            Fulfilled, Violation, InEffect, Null, Null, InEffect, InEffect, InEffect, InEffect,
-            InEffect,
-        ],
-        violations: &[(15, RETURN)],
-        voids: &[],
+        log: "\
+at 2024-01-03 exert pWaive
+at 2024-01-05 happens returned
+report 2024-01-05
+",
+        status: Status::Done,
+        told: "\
+report 2024-01-05
+contract SuccessfulTermination
+obligation oPay Discharge
+obligation oReturn Fulfillment
+obligation oFee Null
+obligation oInterest Null
+surviving sDamages Null
+surviving sSecret InEffect
+power pHold InEffect
+power pGo InEffect
+power pEnd InEffect
+power pWaive SuccessfulTermination
+end
+",
     },
+    // Suspended past the deadlines.
     Row {
-        name: "completed with a discharge",
-        entries: &[(3, Entry::Exert(WAIVE)), (5, Entry::Event(RETURNED))],
-        day: 5,
-        contract: Succeeded,
-        states: &[
-            Discharge, Fulfilled, Null, Null, Null, InEffect, InEffect, InEffect, InEffect,
-            Succeeded,
-        ],
-        violations: &[],
-        voids: &[],
+        log: "\
+at 2024-01-03 exert pHold
+report 2024-01-16
+",
+        status: Status::Done,
+        told: "\
+report 2024-01-16
+contract Suspension
+obligation oPay InEffect
+obligation oReturn InEffect
+obligation oFee Null
+obligation oInterest Null
+surviving sDamages Null
+surviving sSecret InEffect
+power pHold SuccessfulTermination
+power pGo InEffect
+power pEnd InEffect
+power pWaive InEffect
+end
+",
     },
+    // Suspended as a deadline passes.
     Row {
-        name: "suspended past the deadlines",
-        entries: &[(3, Entry::Exert(HOLD))],
-        day: 16,
-        contract: Suspension,
-        states: &[
-            InEffect, InEffect, Null, Null, Null, InEffect, Succeeded, InEffect, InEffect, InEffect,
-        ],
-        violations: &[],
-        voids: &[],
+        log: "\
+at 2024-01-10 exert pHold
+report 2024-01-10
+",
+        status: Status::Done,
+        told: "\
+report 2024-01-10
+contract Suspension
+obligation oPay Violation
+obligation oReturn InEffect
+obligation oFee Null
+obligation oInterest Null
+surviving sDamages InEffect
+surviving sSecret InEffect
+power pHold SuccessfulTermination
+power pGo InEffect
+power pEnd InEffect
+power pWaive InEffect
+violation 2024-01-10 oPay
+end
+",
     },
+    // Resumed.
+    // Completed after it was resumed.
     Row {
-        name: "suspended as a deadline passes",
-        entries: &[(10, Entry::Exert(HOLD))],
-        day: 10,
-        contract: Suspension,
-        states: &[
-            Violation, InEffect, Null, Null, InEffect, InEffect, Succeeded, InEffect, InEffect,
-            InEffect,
-        ],
-        violations: &[(10, PAY)],
-        voids: &[],
+        log: "\
+at 2024-01-03 exert pHold
+at 2024-01-05 happens paid
+at 2024-01-05 happens returned
+at 2024-01-08 exert pGo
+report 2024-01-08
+report 2024-01-09
+",
+        status: Status::Done,
+        told: "\
+report 2024-01-08
+contract InEffect
+obligation oPay InEffect
+obligation oReturn InEffect
+obligation oFee Null
+obligation oInterest Null
+surviving sDamages Null
+surviving sSecret InEffect
+power pHold SuccessfulTermination
+power pGo SuccessfulTermination
+power pEnd InEffect
+power pWaive InEffect
+end
+report 2024-01-09
+contract SuccessfulTermination
+obligation oPay Fulfillment
+obligation oReturn Fulfillment
+obligation oFee Null
+obligation oInterest Null
+surviving sDamages Null
+surviving sSecret InEffect
+power pHold SuccessfulTermination
+power pGo SuccessfulTermination
+power pEnd InEffect
+power pWaive InEffect
+end
+",
     },
+    // Resumed after a deadline.
     Row {
-        name: "resumed",
-        entries: &[
-            (3, Entry::Exert(HOLD)),
-            (5, Entry::Event(PAID)),
-            (5, Entry::Event(RETURNED)),
-            (8, Entry::Exert(GO)),
-        ],
-        day: 8,
-        contract: InEffect,
-        states: &[
-            InEffect, InEffect, Null, Null, Null, InEffect, Succeeded, Succeeded, InEffect,
-            InEffect,
-        ],
-        violations: &[],
-        voids: &[],
+        log: "\
+at 2024-01-03 exert pHold
+at 2024-01-12 exert pGo
+report 2024-01-13
+",
+        status: Status::Done,
+        told: "\
+report 2024-01-13
+contract InEffect
+obligation oPay Violation
+obligation oReturn InEffect
+obligation oFee InEffect
+obligation oInterest Null
+surviving sDamages InEffect
+surviving sSecret InEffect
+power pHold SuccessfulTermination
+power pGo SuccessfulTermination
+power pEnd InEffect
+power pWaive InEffect
+violation 2024-01-13 oPay
+end
+",
     },
+    // Void while the contract is suspended.
     Row {
-        name: "completed after it was resumed",
-        entries: &[
-            (3, Entry::Exert(HOLD)),
-            (5, Entry::Event(PAID)),
-            (5, Entry::Event(RETURNED)),
-            (8, Entry::Exert(GO)),
-        ],
-        day: 9,
-        contract: Succeeded,
-        states: &[
-            Fulfilled, Fulfilled, Null, Null, Null, InEffect, Succeeded, Succeeded, InEffect,
-            InEffect,
-        ],
-        violations: &[],
-        voids: &[],
+        log: "\
+at 2024-01-03 exert pHold
+at 2024-01-05 exert pWaive
+report 2024-01-05
+",
+        status: Status::Done,
+        told: "\
+report 2024-01-05
+contract Suspension
+obligation oPay InEffect
+obligation oReturn InEffect
+obligation oFee Null
+obligation oInterest Null
+surviving sDamages Null
+surviving sSecret InEffect
+power pHold SuccessfulTermination
+power pGo InEffect
+power pEnd InEffect
+power pWaive InEffect
+void 2024-01-05 pWaive
+end
+",
     },
+    // Resumed though not suspended.
     Row {
-        name: "resumed after a deadline",
-        entries: &[(3, Entry::Exert(HOLD)), (12, Entry::Exert(GO))],
-        day: 13,
-        contract: InEffect,
-        states: &[
-            Violation, InEffect, InEffect, Null, InEffect, InEffect, Succeeded, Succeeded,
-            InEffect, InEffect,
-        ],
-        violations: &[(13, PAY)],
-        voids: &[],
+        log: "\
+at 2024-01-03 exert pGo
+at 2024-01-04 exert pHold
+at 2024-01-05 exert pGo
+report 2024-01-05
+",
+        status: Status::Done,
+        told: "\
+report 2024-01-05
+contract Suspension
+obligation oPay InEffect
+obligation oReturn InEffect
+obligation oFee Null
+obligation oInterest Null
+surviving sDamages Null
+surviving sSecret InEffect
+power pHold SuccessfulTermination
+power pGo SuccessfulTermination
+power pEnd InEffect
+power pWaive InEffect
+void 2024-01-05 pGo
+end
+",
     },
+    // Terminated while it is suspended.
     Row {
-        name: "void while the contract is suspended",
-        entries: &[(3, Entry::Exert(HOLD)), (5, Entry::Exert(WAIVE))],
-        day: 5,
-        contract: Suspension,
-        states: &[
-            InEffect, InEffect, Null, Null, Null, InEffect, Succeeded, InEffect, InEffect, InEffect,
-        ],
-        violations: &[],
-        voids: &[(5, WAIVE)],
+        log: "\
+at 2024-01-03 exert pHold
+at 2024-01-05 exert pEnd
+report 2024-01-05
+",
+        status: Status::Done,
+        told: "\
+report 2024-01-05
+contract UnsuccessfulTermination
+obligation oPay UnsuccessfulTermination
+obligation oReturn UnsuccessfulTermination
+obligation oFee Null
+obligation oInterest Null
+surviving sDamages Null
+surviving sSecret InEffect
+power pHold SuccessfulTermination
+power pGo UnsuccessfulTermination
+power pEnd SuccessfulTermination
+power pWaive UnsuccessfulTermination
+end
+",
     },
+    // Suspended and terminated at once.
     Row {
-        name: "resumed though not suspended",
-        entries: &[
-            (3, Entry::Exert(GO)),
-            (4, Entry::Exert(HOLD)),
-            (5, Entry::Exert(GO)),
-        ],
-        day: 5,
-        contract: Suspension,
-        states: &[
-            InEffect, InEffect, Null, Null, Null, InEffect, Succeeded, Succeeded, InEffect,
-            InEffect,
-        ],
-        violations: &[],
-        voids: &[(5, GO)],
+        log: "\
+at 2024-01-03 exert pHold
+at 2024-01-03 exert pEnd
+report 2024-01-03
+",
+        status: Status::Done,
+        told: "\
+report 2024-01-03
+contract UnsuccessfulTermination
+obligation oPay UnsuccessfulTermination
+obligation oReturn UnsuccessfulTermination
+obligation oFee Null
+obligation oInterest Null
+surviving sDamages Null
+surviving sSecret InEffect
+power pHold SuccessfulTermination
+power pGo UnsuccessfulTermination
+power pEnd SuccessfulTermination
+power pWaive UnsuccessfulTermination
+end
+",
     },
+    // Surviving while the contract is suspended.
     Row {
-        name: "terminated while it is suspended",
-        entries: &[(3, Entry::Exert(HOLD)), (5, Entry::Exert(END))],
-        day: 5,
-        contract: Ended,
-        states: &[
-            Ended, Ended, Null, Null, Null, InEffect, Succeeded, Ended, Succeeded, Ended,
-        ],
-        violations: &[],
-        voids: &[],
+        log: "\
+at 2024-01-03 exert pHold
+at 2024-01-06 happens disclosed
+report 2024-01-06
+",
+        status: Status::Done,
+        told: "\
+report 2024-01-06
+contract Suspension
+obligation oPay InEffect
+obligation oReturn InEffect
+obligation oFee Null
+obligation oInterest Null
+surviving sDamages Null
+surviving sSecret Violation
+power pHold SuccessfulTermination
+power pGo InEffect
+power pEnd InEffect
+power pWaive InEffect
+violation 2024-01-06 sSecret
+end
+",
     },
+    // Surviving a contract that was terminated.
     Row {
-        name: "suspended and terminated at once",
-        entries: &[(3, Entry::Exert(HOLD)), (3, Entry::Exert(END))],
-        day: 3,
-        contract: Ended,
-        states: &[
-            Ended, Ended, Null, Null, Null, InEffect, Succeeded, Ended, Succeeded, Ended,
-        ],
-        violations: &[],
-        voids: &[],
+        log: "\
+at 2024-01-05 happens returned
+at 2024-01-11 exert pEnd
+at 2024-01-12 happens reminded
+at 2024-01-13 happens damagesPaid
+at 2024-01-14 happens disclosed
+report 2024-01-14
+",
+        status: Status::Done,
+        told: "\
+report 2024-01-14
+contract UnsuccessfulTermination
+obligation oPay Violation
+obligation oReturn Fulfillment
+obligation oFee Null
+obligation oInterest Null
+surviving sDamages Fulfillment
+surviving sSecret Violation
+power pHold UnsuccessfulTermination
+power pGo UnsuccessfulTermination
+power pEnd SuccessfulTermination
+power pWaive UnsuccessfulTermination
+violation 2024-01-10 oPay
+violation 2024-01-14 sSecret
+end
+",
     },
+    // Surviving a contract that was completed.
     Row {
-        name: "surviving while the contract is suspended",
-        entries: &[(3, Entry::Exert(HOLD)), (6, Entry::Event(DISCLOSED))],
-        day: 6,
-        contract: Suspension,
-        states: &[
-            InEffect, InEffect, Null, Null, Null, Violation, Succeeded, InEffect, InEffect,
-            InEffect,
-        ],
-        violations: &[(6, SECRET)],
-        voids: &[],
+        log: "\
+at 2024-01-05 happens paid
+at 2024-01-05 happens returned
+at 2024-01-08 happens disclosed
+at 2024-01-09 exert pHold
+report 2024-01-13
+",
+        status: Status::Done,
+        told: "\
+report 2024-01-13
+contract SuccessfulTermination
+obligation oPay Fulfillment
+obligation oReturn Fulfillment
+obligation oFee Null
+obligation oInterest Null
+surviving sDamages Null
+surviving sSecret Violation
+power pHold InEffect
+power pGo InEffect
+power pEnd InEffect
+power pWaive InEffect
+violation 2024-01-08 sSecret
+void 2024-01-09 pHold
+end
+",
     },
+    // Suspended as it is complete.
+    // Resumed and not yet completed.
+    // Completed the day after.
     Row {
-        name: "surviving a contract that was terminated",
-        entries: &[
-            (5, Entry::Event(RETURNED)),
-            (11, Entry::Exert(END)),
-            (12, Entry::Event(REMINDED)),
-            (13, Entry::Event(DAMAGES_PAID)),
-            (14, Entry::Event(DISCLOSED)),
-        ],
-        day: 14,
-        contract: Ended,
-        states: &[
-            Violation, Fulfilled, Null, Null, Fulfilled, Violation, Ended, Ended, Succeeded, Ended,
-        ],
-        violations: &[(10, PAY), (14, SECRET)],
-        voids: &[],
-    },
-    Row {
-        name: "surviving a contract that was completed",
-        entries: &[
-            (5, Entry::Event(PAID)),
-            (5, Entry::Event(RETURNED)),
-            (8, Entry::Event(DISCLOSED)),
-            (9, Entry::Exert(HOLD)),
-        ],
-        day: 13,
-        contract: Succeeded,
-        states: &[
-            Fulfilled, Fulfilled, Null, Null, Null, Violation, InEffect, InEffect, InEffect,
-            InEffect,
-        ],
-        violations: &[(8, SECRET)],
-        voids: &[(9, HOLD)],
-    },
-    Row {
-        name: "suspended as it is complete",
-        entries: &[
-            (3, Entry::Event(PAID)),
-            (5, Entry::Event(RETURNED)),
-            (5, Entry::Exert(HOLD)),
-        ],
-        day: 5,
-        contract: Suspension,
-        states: &[
-            Fulfilled, Fulfilled, Null, Null, Null, InEffect, Succeeded, InEffect, InEffect,
-            InEffect,
-        ],
-        violations: &[],
-        voids: &[],
-    },
-    Row {
-        name: "resumed and not yet completed",
-        entries: &[
-            (3, Entry::Event(PAID)),
-            (5, Entry::Event(RETURNED)),
-            (5, Entry::Exert(HOLD)),
-            (6, Entry::Exert(GO)),
-        ],
-        day: 6,
-        contract: InEffect,
-        states: &[
-            Fulfilled, Fulfilled, Null, Null, Null, InEffect, Succeeded, Succeeded, InEffect,
-            InEffect,
-        ],
-        violations: &[],
-        voids: &[],
-    },
-    Row {
-        name: "completed the day after",
-        entries: &[
-            (3, Entry::Event(PAID)),
-            (5, Entry::Event(RETURNED)),
-            (5, Entry::Exert(HOLD)),
-            (6, Entry::Exert(GO)),
-        ],
-        day: 7,
-        contract: Succeeded,
-        states: &[
-            Fulfilled, Fulfilled, Null, Null, Null, InEffect, Succeeded, Succeeded, InEffect,
-            InEffect,
-        ],
-        violations: &[],
-        voids: &[],
+        log: "\
+at 2024-01-03 happens paid
+at 2024-01-05 happens returned
+at 2024-01-05 exert pHold
+report 2024-01-05
+at 2024-01-06 exert pGo
+report 2024-01-06
+report 2024-01-07
+",
+        status: Status::Done,
+        told: "\
+report 2024-01-05
+contract Suspension
+obligation oPay Fulfillment
+obligation oReturn Fulfillment
+obligation oFee Null
+obligation oInterest Null
+surviving sDamages Null
+surviving sSecret InEffect
+power pHold SuccessfulTermination
+power pGo InEffect
+power pEnd InEffect
+power pWaive InEffect
+end
+report 2024-01-06
+contract InEffect
+obligation oPay Fulfillment
+obligation oReturn Fulfillment
+obligation oFee Null
+obligation oInterest Null
+surviving sDamages Null
+surviving sSecret InEffect
+power pHold SuccessfulTermination
+power pGo SuccessfulTermination
+power pEnd InEffect
+power pWaive InEffect
+end
+report 2024-01-07
+contract SuccessfulTermination
+obligation oPay Fulfillment
+obligation oReturn Fulfillment
+obligation oFee Null
+obligation oInterest Null
+surviving sDamages Null
+surviving sSecret InEffect
+power pHold SuccessfulTermination
+power pGo SuccessfulTermination
+power pEnd InEffect
+power pWaive InEffect
+end
+",
     },
 ];
 
-fn events(alloc: Global) -> Result<List<EventDecl>, Memory>
-    ensures { IfOk result (λ events. events ≡ is.hire_events) }
-{
-    let mut events = List::new(alloc);
-    events.push(declared(alloc, b"paid")?)?;
-    events.push(declared(alloc, b"returned")?)?;
-    events.push(declared(alloc, b"feePaid")?)?;
-    events.push(declared(alloc, b"reminded")?)?;
-    events.push(declared(alloc, b"interestPaid")?)?;
-    events.push(declared(alloc, b"damagesPaid")?)?;
-    events.push(declared(alloc, b"disclosed")?)?;
-    Ok(events)
-}
-
-/// The violation of an obligation.
-fn violation(position: u32) -> Ev
-    ensures { result ≡ is.violation position }
-{
-    Ev::Inner(Kind::Violated, Target::Position(position))
-}
-
-/// An obligation that comes into effect once it is created.
-fn owed(
-    alloc: Global,
-    name: &[u8],
-    form: Form,
-    trigger: Prop,
-    consequent: Prop,
-) -> Result<Position, Memory>
-    ensures { IfOk result (λ p. p ≡ is.owed name.now form trigger consequent) }
-{
-    obligation(alloc, name, form, trigger, Prop::Const(true), consequent)
-}
-
-/// A power in effect at once.
-fn held(alloc: Global, name: &[u8], verb: Verb, target: Target) -> Result<Position, Memory>
-    ensures { IfOk result (λ p. p ≡ is.held name.now verb target) }
-{
-    power(alloc, name, Prop::Const(true), verb, target)
-}
-
-/// The price is paid before day 10.
-fn pay(alloc: Global) -> Result<Position, Memory>
-    ensures { IfOk result (λ p. p ≡ is.o_pay) }
-{
-    owed(
-        alloc,
-        b"oPay",
-        Form::Obligation,
-        Prop::Const(true),
-        before(alloc, PAID, 10),
-    )
-}
-
-/// The machine is returned before day 15.
-fn give_back(alloc: Global) -> Result<Position, Memory>
-    ensures { IfOk result (λ p. p ≡ is.o_return) }
-{
-    owed(
-        alloc,
-        b"oReturn",
-        Form::Obligation,
-        Prop::Const(true),
-        before(alloc, RETURNED, 15),
-    )
-}
-
-/// Where the machine wasn't overdue by day 12, a fee is paid before day 20.
-fn fee(alloc: Global) -> Result<Position, Memory>
-    ensures { IfOk result (λ p. p ≡ is.o_fee) }
-{
-    let is_kept = Prop::Not(Boxed::new(alloc, Prop::Before(violation(RETURN), on(alloc, 12)))?);
-    owed(
-        alloc,
-        b"oFee",
-        Form::Obligation,
-        is_kept,
-        before(alloc, FEE_PAID, 20),
-    )
-}
-
-/// Where a reminder came after the price was overdue, interest is paid.
-fn interest(alloc: Global) -> Result<Position, Memory>
-    ensures { IfOk result (λ p. p ≡ is.o_interest) }
-{
-    let overdue = DateTerm {
-        base: Base::First(violation(PAY)),
-        plus: List::new(alloc),
-    };
-    let is_reminded = Prop::After(event(alloc, REMINDED), overdue);
-    owed(
-        alloc,
-        b"oInterest",
-        Form::Obligation,
-        is_reminded,
-        happens(alloc, INTEREST_PAID),
-    )
-}
-
-/// Where the price was overdue, damages are paid before day 30.
-fn damages(alloc: Global) -> Result<Position, Memory>
-    ensures { IfOk result (λ p. p ≡ is.s_damages) }
-{
-    let is_overdue = Prop::Happens(violation(PAY));
-    owed(
-        alloc,
-        b"sDamages",
-        Form::Surviving,
-        is_overdue,
-        before(alloc, DAMAGES_PAID, 30),
-    )
-}
-
-/// Nothing is disclosed before day 50.
-fn secret(alloc: Global) -> Result<Position, Memory>
-    ensures { IfOk result (λ p. p ≡ is.s_secret) }
-{
-    let is_silent = Prop::Not(Boxed::new(alloc, before(alloc, DISCLOSED, 50))?);
-    owed(
-        alloc,
-        b"sSecret",
-        Form::Surviving,
-        Prop::Const(true),
-        is_silent,
-    )
-}
-
-fn obligations(alloc: Global) -> Result<List<Position>, Memory>
-    ensures { IfOk result (λ ps. ps ≡ is.o_pay ∷ is.o_return ∷ is.o_fee ∷ is.o_interest ∷ is.s_damages ∷ is.s_secret ∷ []) }
-{
-    let mut positions = List::new(alloc);
-    positions.push(pay(alloc)?)?;
-    positions.push(give_back(alloc)?)?;
-    positions.push(fee(alloc)?)?;
-    positions.push(interest(alloc)?)?;
-    positions.push(damages(alloc)?)?;
-    positions.push(secret(alloc)?)?;
-    Ok(positions)
-}
-
-fn positions(alloc: Global) -> Result<List<Position>, Memory>
-    ensures { IfOk result (λ ps. ps ≡ is.hire_positions) }
-{
-    let mut positions = obligations(alloc)?;
-    positions.push(held(alloc, b"pHold", Verb::Suspends, Target::Contract)?)?;
-    positions.push(held(alloc, b"pGo", Verb::Resumes, Target::Contract)?)?;
-    positions.push(held(alloc, b"pEnd", Verb::Terminates, Target::Contract)?)?;
-    positions.push(held(alloc, b"pWaive", Verb::Discharges, Target::Position(PAY))?)?;
-    Ok(positions)
-}
-
-/// The deed of the hire.
-fn made_hire(alloc: Global) -> Result<Deed, Memory>
-    ensures few { IfOk result (λ deed. length deed.positions < 2 ^ 32) }
-    ensures sound { IfOk result HasSoundParts }
-    ensures unit { IfOk result (λ deed. deed.unit ≡ TimeUnit.Day) }
-{
-    Ok(Deed {
-        unit: TimeUnit::Day,
-        start: 1,
-        events: events(alloc)?,
-        choices: List::new(alloc),
-        positions: positions(alloc)?,
-        posts: List::new(alloc),
-        order: List::new(alloc),
-    })
-}
-
-/// Each row is reported as it says.
 #[test]
-fn hire_is_reported(rt: HostRuntime) -> Result<(), Fail> {
-    let alloc = rt.alloc();
-    let deed = made_hire(alloc)?;
-    for row in &ROWS {
-        check_row(&rt, alloc, &deed, row)?;
-    }
-    Ok(())
+fn the_hire_is_reported(rt: HostRuntime) -> Result<(), Fail> {
+    are_told(rt.alloc(), &HIRE, &ROWS)
 }

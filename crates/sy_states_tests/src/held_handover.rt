@@ -1,8 +1,8 @@
-use crate::told::{Contract, Row, are_told};
 use std::test::Fail;
+use sy_monitor_tests::told::{Contract, Row, are_told};
 use sy_run::Status;
 
-/// The handover of a house, whose powers act on positions in each way, and on the contract.
+/// A handover whose powers act on positions, and on the contract as a whole.
 static HANDOVER: Contract = Contract {
     spec: b"\
 Domain handover
@@ -307,6 +307,6 @@ end
 ];
 
 #[test]
-fn the_handover_of_a_house_is_reported(rt: HostRuntime) -> Result<(), Fail> {
+fn the_held_handover_is_reported(rt: HostRuntime) -> Result<(), Fail> {
     are_told(rt.alloc(), &HANDOVER, &ROWS)
 }
