@@ -16,8 +16,6 @@ mod rounds_law;
 mod soundness_law;
 mod state;
 mod table;
-#[cfg(test)]
-mod tests;
 mod value;
 mod verdict;
 

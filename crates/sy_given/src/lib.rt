@@ -8,8 +8,6 @@ mod literals;
 mod missing;
 mod named;
 mod repeats;
-#[cfg(test)]
-mod tests;
 mod values;
 mod wrong;
 

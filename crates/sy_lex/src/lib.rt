@@ -8,8 +8,6 @@ mod sign;
 mod spot;
 mod step;
 mod string;
-#[cfg(test)]
-mod tests;
 mod token;
 mod written;
 

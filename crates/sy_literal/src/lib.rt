@@ -7,8 +7,6 @@ mod consequents;
 mod limits;
 mod literals;
 mod numbers;
-#[cfg(test)]
-mod tests;
 mod values;
 
 pub use calendar::{calendar_fault, is_finer};

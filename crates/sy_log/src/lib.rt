@@ -7,8 +7,6 @@ mod names;
 mod print;
 mod read;
 mod reading;
-#[cfg(test)]
-mod tests;
 mod told;
 mod tree;
 mod values;

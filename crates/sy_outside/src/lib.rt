@@ -17,6 +17,3 @@ pub use read::{FILE_LIMIT, FileFault, read_file};
 pub use steps::Steps;
 pub use sure::{Named, SureFiles, SureSink, SureSource};
 pub use write::write_all;
-
-#[cfg(test)]
-mod tests;

@@ -4,8 +4,6 @@
 mod counts;
 mod limits_law;
 mod order_law;
-#[cfg(test)]
-mod tests;
 
 pub use counts::has_few_parts;
 pub use limits_law::few_parts_keep_limits;

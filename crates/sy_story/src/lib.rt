@@ -3,7 +3,5 @@
 
 mod moments;
 mod story;
-#[cfg(test)]
-mod tests;
 
 pub use story::{Noted, Story, StoryFault};

@@ -7,8 +7,6 @@ mod cycle;
 mod edge;
 mod fault;
 mod listing;
-#[cfg(test)]
-mod tests;
 
 pub use edge::Edge;
 pub use fault::OrderFault;

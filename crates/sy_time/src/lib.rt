@@ -4,8 +4,6 @@
 mod date;
 mod digits;
 mod duration;
-#[cfg(test)]
-mod tests;
 mod unit;
 mod write;
 mod written;

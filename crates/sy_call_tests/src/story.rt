@@ -1,10 +1,10 @@
-use crate::Noted::{Known, New};
-use crate::StoryFault::TooEarly;
-use crate::{Story, StoryFault};
 use std::alloc::Global;
 use std::test::Fail;
 use sy_base::{List, Memory, Point, Text};
 use sy_core::{Happening, Value, What};
+use sy_story::Noted::{Known, New};
+use sy_story::StoryFault::TooEarly;
+use sy_story::{Story, StoryFault};
 
 /// The event with number 0, of this amount.
 fn paid(alloc: Global, point: Point, amount: i64) -> Result<Happening, Memory> {

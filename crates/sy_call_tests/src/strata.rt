@@ -1,10 +1,10 @@
 ghost use Rattle.std.specs.Prelude.{◌<◌, IsTrue};
 ghost use Rattle.std.specs.List.{All};
 
-use crate::{Edge, OrderFault, order};
 use std::alloc::{AllocError, Global};
 use std::test::Fail;
 use sy_base::List;
+use sy_strata::{Edge, OrderFault, order};
 
 /// The edges of these pairs, each of a node and of one that it needs.
 fn edges_of(alloc: Global, pairs: &[(u32, u32)]) -> Result<Vec<Edge>, AllocError> {

@@ -1,7 +1,7 @@
-use crate::has_few_parts;
 use std::test::Fail;
 use sy_base::{List, Text, TimeUnit};
 use sy_core::{Act, Deed, Goal, Position, Prop, Target};
+use sy_parts::has_few_parts;
 use sy_words::{Form, Verb};
 
 /// A deed of one power, which suspends the contract.

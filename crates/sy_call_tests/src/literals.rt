@@ -1,7 +1,7 @@
-use crate::{content, date, number};
 use std::test::Fail;
 use sy_base::TimeUnit::{Day, Hour, Minute};
 use sy_base::{Point, Text, TimeUnit};
+use sy_literal::{content, date, number};
 
 #[test]
 fn reads_literals(rt: HostRuntime) -> Result<(), Fail> {

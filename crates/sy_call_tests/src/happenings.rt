@@ -1,7 +1,7 @@
-use crate::{Ev, Guard, Happening, StateOf, Target, Value, What, copy_states, matches};
 use std::alloc::Global;
 use std::test::Fail;
 use sy_base::{List, Text};
+use sy_core::{Ev, Guard, Happening, StateOf, Target, Value, What, copy_states, matches};
 use sy_words::{Cmp, Kind};
 
 fn list_of<T: Drop>(alloc: Global, items: Vec<T>) -> Result<List<T>, Fail> {

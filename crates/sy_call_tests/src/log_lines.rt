@@ -3,13 +3,13 @@ ghost use Rattle.std.specs.List.{list_all};
 ghost use Rattle.sy_core.specs.Limits.{is_few};
 ghost use Rattle.sy_log.specs.Entries.{HasFewNames};
 
-use crate::{Entry, print_entry, read_line};
 use std::alloc::Global;
 use std::test::Fail;
 use sy_base::{List, Memory, Refused, Text, TimeUnit};
 use sy_core::{
     Act, AttrDecl, Choices, Deed, EventDecl, Form, Goal, Position, Prop, Target, ValueKind, Verb,
 };
+use sy_log::{Entry, print_entry, read_line};
 use sy_report::refusal_text;
 
 fn attr(alloc: Global, name: &[u8], kind: ValueKind) -> Result<AttrDecl, Memory> {

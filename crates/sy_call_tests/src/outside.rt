@@ -1,10 +1,10 @@
-use crate::{
-    Files, LineFault, LineReader, MemFiles, MemSink, MemSource, Named, Sink, Source, SureFiles,
-    SureSink, SureSource, read_file, write_all,
-};
 use std::alloc::Global;
 use std::test::Fail;
 use sy_base::{List, Memory, Text};
+use sy_outside::{
+    Files, LineFault, LineReader, MemFiles, MemSink, MemSource, Named, Sink, Source, SureFiles,
+    SureSink, SureSource, read_file, write_all,
+};
 
 /// The lines of these bytes, each followed by a bar, and what ends them.
 fn barred(alloc: Global, bytes: &[u8], most: usize) -> Result<Vec<u8>, LineFault> {

@@ -1,10 +1,10 @@
 ghost use Rattle.std.specs.Prelude.{◌<◌, ◌^◌, length};
 
-use crate::TokenKind::{Date, Number, Reserved, Sign as ASign, Str, Word};
-use crate::{Keyword, Sign, Token, TokenKind, end_place, tokens};
 use std::alloc::Global;
 use std::test::Fail;
 use sy_base::{FileKind, Place, Refused};
+use sy_lex::TokenKind::{Date, Number, Reserved, Sign as ASign, Str, Word};
+use sy_lex::{Keyword, Sign, Token, TokenKind, end_place, tokens};
 
 fn token(kind: TokenKind, from: u32, to: u32, line: u64, column: u64) -> Token {
     Token {

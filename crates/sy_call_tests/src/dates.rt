@@ -1,10 +1,10 @@
 ghost use Rattle.std.specs.Prelude.{◌≡◌};
 ghost use Rattle.sy_base.specs.Points.{IsDated};
 
-use crate::DateFault::{NoSuchDay, OutOfRange, Shape, TooFine};
-use crate::{DateFault, add, has_date_form, read_date, write_date};
 use sy_base::TimeUnit::{Day, Hour, Minute};
 use sy_base::{Duration, Measure, Point, TimeUnit};
+use sy_time::DateFault::{NoSuchDay, OutOfRange, Shape, TooFine};
+use sy_time::{DateFault, add, has_date_form, read_date, write_date};
 
 #[test]
 fn reads_dates(rt: HostRuntime) {

@@ -1,6 +1,6 @@
-use crate::Known;
 use std::test::Fail;
 use sy_base::Text;
+use sy_given::Known;
 
 #[test]
 fn copies_a_text(rt: HostRuntime) -> Result<(), Fail> {
