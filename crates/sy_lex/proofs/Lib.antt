@@ -1,10 +1,16 @@
+pub mod BadEnds
+pub mod BadSteps
 pub mod Begins
 pub mod Dates
+pub mod Faulting
+pub mod Faults
 pub mod Firsts
 pub mod Inside
+pub mod OpenStrings
 pub mod SignTexts
 pub mod Spots
 pub mod Stands
+pub mod Staying
 pub mod Steps
 pub mod Strings
 pub mod Whole

@@ -19,7 +19,7 @@ pub not_empty : (sign : Sign) → 0 < length (sign_text sign)
 not_empty S.Colon = omega arith
 not_empty sign = omega arith
 
-at_most_two : (sign : Sign) → length (sign_text sign) ≤ 2
+pub at_most_two : (sign : Sign) → length (sign_text sign) ≤ 2
 at_most_two S.Colon = omega arith
 at_most_two sign = omega arith
 
@@ -90,7 +90,7 @@ two_taken sign other a b rest is found =
     let same : Some other ≡ Some sign = sym (taken_whole (a ∷ b ∷ []) other is) ∙ found in
     cc
 
-text_size : (sign : Sign) (n : ℕ) (bytes : List ℕ) → n ≤ length bytes → sign_text sign ≡ take n bytes
+pub text_size : (sign : Sign) (n : ℕ) (bytes : List ℕ) → n ≤ length bytes → sign_text sign ≡ take n bytes
     → length (sign_text sign) ≡ n
 text_size sign n bytes within is = ap length is ∙ length-take-le n bytes within
 

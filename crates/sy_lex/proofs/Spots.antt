@@ -32,15 +32,3 @@ pub spot_take_more : (at : Spot) (bytes : List ℕ) (k : ℕ) → k < length byt
     → spot_after at (take (k + 1) bytes) ≡ next_spot (spot_after at (take k bytes)) (get_or bytes k 0)
 spot_take_more at bytes k within =
     ap (spot_after at) (take_more bytes k 0 within) ∙ spot_more at (take k bytes) (get_or bytes k 0)
-
--- lines and columns are counted from 1
-abbrev pub Counts : Spot → Type 0
-Counts at = (1 ≤ at.place.line) × (1 ≤ at.place.column)
-
-pub next_counts : (at : Spot) (b : ℕ) → Counts at → Counts (next_spot at b)
-next_counts at b counts = (grind (arith, nat_tests, counts.0, counts.1), grind (arith, nat_tests, counts.0, counts.1))
-
-pub spot_counts : (at : Spot) (bytes : List ℕ) → Counts at → Counts (spot_after at bytes)
-unfolding spot_after
-spot_counts at [] counts = counts
-spot_counts at (b ∷ bytes) counts = spot_counts (next_spot at b) bytes (next_counts at b counts)

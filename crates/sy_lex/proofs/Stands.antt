@@ -40,7 +40,7 @@ Stands bytes (S.Bad n) = Unit {0}
 -- ---- runs
 
 -- all bytes of a front pass, so it is no longer than the run
-front_in_run : (test : ℕ → Bool) (bytes : List ℕ) (m : ℕ) → m ≤ length bytes
+pub front_in_run : (test : ℕ → Bool) (bytes : List ℕ) (m : ℕ) → m ≤ length bytes
     → ((k : ℕ) → k < length (take m bytes) → test (get_or (take m bytes) k 0) ≡ true) → m ≤ prefix_len test bytes
 front_in_run test bytes m within each = elim (cases_lt (prefix_len test bytes) m) [
   | inl lt ↦

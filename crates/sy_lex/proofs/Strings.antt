@@ -11,18 +11,18 @@ use Rattle.sy_lex.specs.Forms as f
 use Rattle.sy_lex.specs.Forms.{HasContent, IsString}
 use Rattle.sy_lex.specs.Machine.Cutting.{string_step, step_at}
 
-over_escape : (left at b : ℕ) (bytes : List ℕ) → is_escaped b ≡ true → 0 < left
+pub over_escape : (left at b : ℕ) (bytes : List ℕ) → is_escaped b ≡ true → 0 < left
     → string_step left at (92 ∷ b ∷ bytes) ≡ string_step (left - 1) (at + 2) bytes
 unfolding string_step
 over_escape left at b bytes escaped some = grind (arith, nat_tests)
 
-over_byte : (left at b : ℕ) (bytes : List ℕ) → is_newline b ≡ false → is_escaped b ≡ false → 0 < left
+pub over_byte : (left at b : ℕ) (bytes : List ℕ) → is_newline b ≡ false → is_escaped b ≡ false → 0 < left
     → 0 < length bytes → string_step left at (b ∷ bytes) ≡ string_step (left - 1) (at + 1) bytes
 unfolding string_step
 over_byte left at b [] newline escaped some more = absurd (omega arith)
 over_byte left at b (c ∷ bytes) newline escaped some more = grind (arith, nat_tests)
 
-at_quote : (left at : ℕ) (bytes : List ℕ) → string_step left at (34 ∷ bytes) ≡ S.Token K.Str (at + 1)
+pub at_quote : (left at : ℕ) (bytes : List ℕ) → string_step left at (34 ∷ bytes) ≡ S.Token K.Str (at + 1)
 unfolding string_step
 at_quote left at [] = refl
 at_quote left at (c ∷ bytes) = refl

@@ -1,6 +1,6 @@
 -- A text is cut into the tokens that it has, and into no others.
-use Rattle.std.proofs.Common.{◌≡◌, ℕ, zero, suc, ◌+◌, ◌-◌, ◌<◌, ◌≤◌, List, [], ◌∷◌, length, take, drop, Result, Ok, Err, refl, sym, ap, subst, ◌∙◌, arith}
-use Rattle.std.specs.Prelude.{IfErr, IfOk, MatchResult, IsErrAnd}
+use Rattle.std.proofs.Common.{◌≡◌, ℕ, zero, suc, ◌+◌, ◌<◌, ◌≤◌, List, [], ◌∷◌, length, take, drop, Result, Ok, Err, refl, sym, ap, subst, ◌∙◌, arith}
+use Rattle.std.specs.Prelude.{IfOk, MatchResult, IsErrAnd}
 use Rattle.std.proofs.lemmas.List.{length-drop}
 use Rattle.std.proofs.lemmas.List.Sums.{prefix_len-le-length}
 use Rattle.sy_base.specs.declared.refusal.FileKind.{FileKind}
@@ -15,25 +15,24 @@ use Rattle.sy_lex.specs.declared.step.Step.{Step}
 use Rattle.sy_lex.specs.declared.step.Step.TheVariants as S
 use Rattle.sy_lex.specs.Bytes.{is_comment_byte}
 use Rattle.sy_lex.specs.Tokens as g
-use Rattle.sy_lex.specs.Tokens.{IsFirst, IsLexFault, Lexes, HasText, IsReadAs, comment_length, first_spot, next_spot, spot_after, token_at}
-use Rattle.sy_lex.specs.Machine.Cutting.{step_at, Moves, Cut, with_first, taken, cut_at, cut_of, Gives, refused_as}
+use Rattle.sy_lex.specs.Tokens.{IsFirst, Lexes, HasText, IsReadAs, comment_length, first_spot, next_spot, spot_after, token_at}
+use Rattle.sy_lex.specs.Machine.Cutting.{step_at, Moves, Cut, with_first, cut_at, cut_of, Gives, refused_as}
 use Rattle.sy_lex.proofs.Begins as c
 use Rattle.sy_lex.proofs.Begins.{blank_class, step_by_class}
 use Rattle.sy_lex.proofs.Firsts.{first_class, first_step}
-use Rattle.sy_lex.proofs.Spots.{Counts, next_counts, spot_counts}
 use Rattle.sy_lex.proofs.Stands.{Stands, step_stands}
 use Rattle.sy_lex.proofs.Steps.{one_step}
 
-first_moves : (kind : TokenKind) (n : ℕ) (bytes : List ℕ) → IsFirst kind n bytes
+pub first_moves : (kind : TokenKind) (n : ℕ) (bytes : List ℕ) → IsFirst kind n bytes
     → Moves (length bytes) (S.Token kind n)
 first_moves kind n bytes f = ((first_class kind n bytes f.form).0, f.within)
 
-first_stands : (kind : TokenKind) (n : ℕ) (bytes : List ℕ) → IsFirst kind n bytes → S.Token kind n ≡ step_at bytes
+pub first_stands : (kind : TokenKind) (n : ℕ) (bytes : List ℕ) → IsFirst kind n bytes → S.Token kind n ≡ step_at bytes
 first_stands kind n [] f =
     let some = (first_class kind n [] f.form).0 in let within = f.within in absurd (omega arith)
 first_stands kind n (b ∷ bytes) f = sym (first_step kind n b bytes f)
 
-complete : (at : Spot) (bytes : List ℕ) (tokens : List Token) → Lexes at bytes tokens → cut_at 0 at bytes ≡ Ok tokens
+pub complete : (at : Spot) (bytes : List ℕ) (tokens : List Token) → Lexes at bytes tokens → cut_at 0 at bytes ≡ Ok tokens
 unfolding cut_at spot_after
 complete at bytes tokens (g.ends a) = refl
 complete at bytes tokens (g.blank a b more others is d) =
@@ -50,7 +49,7 @@ complete at bytes tokens (g.token a kind n all others f d) =
     one_step (S.Token kind n) a all (omega (arith, moves)) (first_stands kind n all f) moves
     ∙ ap (with_first (token_at kind n a)) (complete (spot_after a (take n all)) (drop n all) others d)
 
-with_first_ok : (token : Token) (read : Cut) (tokens : List Token) → with_first token read ≡ Ok tokens
+pub with_first_ok : (token : Token) (read : Cut) (tokens : List Token) → with_first token read ≡ Ok tokens
     → (others : List Token) × (read ≡ Ok others) × (token ∷ others ≡ tokens)
 with_first_ok token (Ok others) tokens e = (others, refl, cc)
 with_first_ok token (Err place) tokens e = absurd cc
@@ -79,7 +78,7 @@ by_step (S.Skip n) at b bytes tokens is stands later cut =
     stands.2 at tokens (later n tokens stands.0 (sym one ∙ cut))
 by_step (S.Bad n) at b bytes tokens is stands later cut = absurd (bad_cut n at b bytes tokens is cut)
 
-sound : (limit : ℕ) (at : Spot) (bytes : List ℕ) (tokens : List Token) → length bytes ≤ limit
+pub sound : (limit : ℕ) (at : Spot) (bytes : List ℕ) (tokens : List Token) → length bytes ≤ limit
     → cut_at 0 at bytes ≡ Ok tokens → Lexes at bytes tokens
 unfolding cut_at
 sound limit at [] tokens within cut = let none : [] ≡ tokens = cc in subst (Lexes at []) none (g.ends at)
@@ -122,40 +121,6 @@ pub at_most_one : (tokens others : List Token) (source : List ℕ) → HasText t
 at_most_one tokens others source text text' =
     same_tokens tokens others (cut_of source) (complete first_spot source tokens text) (complete first_spot source others text')
 
-abbrev bad : Place → Cut
-bad place = Err place
-
--- where a text can't be cut
-abbrev IsCounted : Place → Type 0
-IsCounted place = (1 ≤ place.line) × (1 ≤ place.column)
-
-with_first_err : (token : Token) (cut : Cut) (place : Place) → with_first token cut ≡ Err place → cut ≡ Err place
+pub with_first_err : (token : Token) (cut : Cut) (place : Place) → with_first token cut ≡ Err place → cut ≡ Err place
 with_first_err token (Ok tokens) place e = absurd cc
 with_first_err token (Err other) place e = e
-
-same_place : (one other : Place) → bad one ≡ bad other → one ≡ other
-same_place one other e = cc
-
-taken_counts : (at : Spot) (bytes : List ℕ) (step : Step) (later : ℕ → Cut) → ((k : ℕ) (place : Place) → later k ≡ Err place → IsCounted place)
-    → (place : Place) → Counts at → taken at bytes step later ≡ Err place → IsCounted place
-taken_counts at bytes (S.Token kind n) later counted place counts e =
-    counted (n - 1) place (with_first_err (token_at kind n at) (later (n - 1)) place e)
-taken_counts at bytes (S.Skip n) later counted place counts e = counted (n - 1) place e
-taken_counts at bytes (S.Bad n) later counted place counts e =
-    subst IsCounted (same_place (spot_after at (take n bytes)).place place e) (spot_counts at (take n bytes) counts)
-
-cut_counts : (skip : ℕ) (at : Spot) (bytes : List ℕ) (place : Place) → Counts at → cut_at skip at bytes ≡ Err place → IsCounted place
-unfolding cut_at
-cut_counts skip at [] place counts e = absurd cc
-cut_counts (suc skip) at (b ∷ bytes) place counts e = cut_counts skip (next_spot at b) bytes place (next_counts at b counts) e
-cut_counts zero at (b ∷ bytes) place counts e =
-    taken_counts at (b ∷ bytes) (step_at (b ∷ bytes)) (λ k. cut_at k (next_spot at b) bytes)
-    (λ k other e'. cut_counts k (next_spot at b) bytes other (next_counts at b counts) e') place counts e
-
-pub is_refused : (file : FileKind) (read : Result (List Token) LexFault) (answer : Result (List Token) Refused) (source : List ℕ)
-    → Answers file read answer → Gives read (cut_of source) → IfErr answer (IsLexFault file)
-is_refused file (Ok tokens) answer source answers cut = rw answers tt
-is_refused file (Err fault) (Ok tokens) source answers cut = absurd answers
-is_refused file (Err F.Memory) (Err refused) source answers cut = rw answers tt
-is_refused file (Err (F.At place)) (Err refused) source answers cut =
-    rw answers (refl, refl, cut_counts 0 first_spot source place (omega arith, omega arith) cut, refl)

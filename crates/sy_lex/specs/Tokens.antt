@@ -1,9 +1,10 @@
 -- The tokens of a text.
-use Rattle.std.specs.Prelude.{ℕ, ◌≡◌, ◌+◌, ◌<◌, ◌≤◌, true, if◌then◌else◌, List, [], ◌∷◌, length, take, drop, slice_index, Option, None, Some, Result, Ok, Err}
+use Rattle.std.specs.Prelude.{ℕ, ◌≡◌, ◌+◌, ◌<◌, ◌≤◌, true, if◌then◌else◌, List, [], ◌∷◌, ◌++◌, length, take, drop, slice_index, Some, Result, Ok, Err}
 use Rattle.std.specs.List.{prefix_len}
 use Rattle.sy_base.specs.declared.refusal.FileKind.{FileKind}
 use Rattle.sy_base.specs.declared.refusal.Place.{Place}
 use Rattle.sy_base.specs.declared.refusal.FaultName.TheVariants.{LexFault}
+use Rattle.sy_base.specs.declared.refusal.Refusal.{Refusal}
 use Rattle.sy_base.specs.declared.refusal.Refused.{Refused}
 use Rattle.sy_base.specs.declared.refusal.Refused.TheVariants as R
 use Rattle.sy_lex.specs.declared.token.Token.{Token}
@@ -79,13 +80,24 @@ IsReadAs (Ok found) tokens = found ≡ tokens
 IsReadAs (Err R.Memory) tokens = Unit {0}
 IsReadAs (Err (R.Refusal refusal)) tokens = ⊥
 
--- a place in a text: lines and columns are counted from 1
-abbrev pub IsInText : Option Place → Type 0
-IsInText None = ⊥
-IsInText (Some place) = (1 ≤ place.line) × (1 ≤ place.column)
+-- some text that begins with these bytes has tokens
+abbrev pub Begins : List ℕ → Type 0
+Begins bytes = (more : List ℕ) × (tokens : List Token) × HasText tokens (bytes ++ more)
 
--- how a text without tokens is refused: as LexFault at some place, without words
-abbrev pub IsLexFault : FileKind → Refused → Type 0
-IsLexFault file R.Memory = Unit {0}
-IsLexFault file (R.Refusal refusal) =
-    (refusal.file ≡ file) × (refusal.name ≡ LexFault) × IsInText refusal.place × (refusal.words ≡ [])
+-- the fault of a text stands behind its first n bytes: the text has no tokens, those n bytes begin one that has some, and with the next byte
+-- they begin none, or the text ends there
+pub record IsFaultAt (source : List ℕ) (n : ℕ) : Type 0 where
+  pub within : n ≤ length source
+  pub none : (tokens : List Token) → HasText tokens source → ⊥
+  pub begins : Begins (take n source)
+  pub stops : n < length source → Begins (take (n + 1) source) → ⊥
+
+-- the refusal of a text whose fault stands at this place
+abbrev pub lex_fault : FileKind → Place → Refusal
+lex_fault file place = record { file = file; place = Some place; name = LexFault; words = [] }
+
+-- how a text is refused: as LexFault at its fault, or for want of memory
+abbrev pub IsLexFault : FileKind → List ℕ → Refused → Type 0
+IsLexFault file source R.Memory = Unit {0}
+IsLexFault file source (R.Refusal refusal) =
+    (n : ℕ) × IsFaultAt source n × (refusal ≡ lex_fault file (end_of (take n source)))

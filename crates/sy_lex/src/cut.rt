@@ -1,6 +1,6 @@
-ghost use Rattle.std.specs.Prelude.{◌≡◌, ◌<◌, ◌^◌, length, List, IfOk, IfErr};
+ghost use Rattle.std.specs.Prelude.{◌≡◌, ◌⊎◌, ℕ, ◌<◌, ◌^◌, length, List, IfOk, IfErr};
 ghost use Rattle.sy_lex.specs.Machine.Cutting.{Gives, cut_of, refused_as};
-ghost use Rattle.sy_lex.specs.Tokens.{HasText, IsLexFault, IsReadAs};
+ghost use Rattle.sy_lex.specs.Tokens.{HasText, IsFaultAt, IsLexFault, IsReadAs};
 ghost use Rattle.sy_lex.specs.declared.cut.LexFault.TheVariants.{Memory as Wanting};
 ghost use Rattle.sy_lex.specs.declared.token.Token.{Token as AToken};
 
@@ -75,15 +75,19 @@ fn cut(alloc: Global, source: &[u8]) -> Result<List<Token>, LexFault>
 /// digits where no date begins.
 ///
 /// A text that has no list of tokens is refused as LexFault, without words, at the first byte after
-/// which the bytes so far begin none, or one past the end where the text ends inside a token. That
-/// the place is this one is not yet in the contract.
+/// which the bytes so far begin none, or one past the end where the text ends inside a token.
 pub fn tokens(alloc: Global, file: FileKind, bytes: &[u8]) -> Result<List<Token>, Refused>
     requires few { length bytes.now < 2 ^ 32 }
     // The text has the tokens that are answered.
     ensures found { IfOk result (λ tokens. HasText tokens bytes.now) }
     // Where it has some, they are answered, unless memory is wanting.
     ensures only { (tokens : List AToken) → HasText tokens bytes.now → IsReadAs result tokens }
-    ensures refusal { IfErr result (IsLexFault file) }
+    // It is refused where its fault stands.
+    ensures refusal { IfErr result (IsLexFault file bytes.now) }
+    // A text has at most one fault.
+    ensures one_refusal { (n m : ℕ) → IsFaultAt bytes.now n → IsFaultAt bytes.now m → n ≡ m }
+    // A text has tokens or a fault.
+    ensures either { ((tokens : List AToken) × HasText tokens bytes.now) ⊎ ((n : ℕ) × IsFaultAt bytes.now n) }
     // A text has at most one list of tokens.
     ensures one { (tokens others : List AToken) → HasText tokens bytes.now → HasText others bytes.now
         → tokens ≡ others }

@@ -20,7 +20,7 @@ use Rattle.sy_run.specs.declared.stop.Stop.TheVariants as stop
 
 module _ {A : Type 0} (file : FileKind) (spells : A → List Lexeme → Type 0) (bytes : List ℕ) where
   -- no tokens
-  pub not_cut : (why : Refused) → ((tokens : List Token) → HasText tokens bytes → lex.IsReadAs (Err why) tokens) → IsLexFault file why
+  pub not_cut : (why : Refused) → ((tokens : List Token) → HasText tokens bytes → lex.IsReadAs (Err why) tokens) → IsLexFault file bytes why
       → IsToldAs (IsTree file spells bytes) (Err (stop_of why))
   not_cut R.Memory only fault = tt
   not_cut (R.Refusal refusal) only fault = no_tokens bytes refusal only fault

@@ -30,7 +30,7 @@ bytes_in file (Some bytes) =
 -- SyntaxFault where their tokens spell no tree
 pub data IsTree {A : Type 0} (file : FileKind) (spells : A → List Lexeme → Type 0) : List ℕ → Result A Stop → Type 0 where
   no_tokens : (bytes : List ℕ) (refusal : Refusal) → ((tokens : List Token) → HasText tokens bytes → ⊥)
-      → IsLexFault file (R.Refusal refusal) → IsTree file spells bytes (Err (stop.Refused refusal))
+      → IsLexFault file bytes (R.Refusal refusal) → IsTree file spells bytes (Err (stop.Refused refusal))
   no_tree : (bytes : List ℕ) (tokens : List Token) (refusal : Refusal) → HasText tokens bytes
       → ((tree : A) → spells tree (lexemes_of bytes tokens) → ⊥)
       → IsSyntaxFault file bytes tokens (R.Refusal refusal) → IsTree file spells bytes (Err (stop.Refused refusal))
