@@ -16,16 +16,16 @@ use Rattle.sy_reader.proofs.Agree.{Agrees, Any, Begins, Differs, then_any, node_
 use Rattle.sy_reader.proofs.AgreeChoices.{Branches, case, ◌or◌, by_next_agrees, token_case, either_agrees}
 use Rattle.sy_reader.proofs.AgreeLists.{AtEnd, all_lines_agree, maybe_listed_agrees}
 
-negative_value_agrees : Agrees (grammar.◌>>=◌ (sign Minus) λ place. grammar.◌>>=◌ (token S.Number) λ number. spelled (Value.Negative place number)) negative_value_at Any
+pub negative_value_agrees : Agrees (grammar.◌>>=◌ (sign Minus) λ place. grammar.◌>>=◌ (token S.Number) λ number. spelled (Value.Negative place number)) negative_value_at Any
 negative_value_agrees = then_any (sign_agrees Minus) λ place. token_case S.Number (Value.Negative place)
 
-abbrev value_branches : Branches value value_by Any
+abbrev pub value_branches : Branches value value_by Any
 value_branches =
     case (begins_then (token_begins S.Number)) (token_case S.Number Value.Number) or case (begins_then (sign_begins Minus)) negative_value_agrees or case (begins_then (token_begins S.Str)) (token_case S.Str Value.Str)
     or case (begins_then (token_begins S.Date)) (token_case S.Date Value.Date) or case (begins_then (keyword_begins K.True)) (node_agrees (Value.Const true) (keyword_agrees K.True))
     or case (begins_then (keyword_begins K.False)) (node_agrees (Value.Const false) (keyword_agrees K.False)) or case (begins_then (token_begins S.Word)) (token_case S.Word Value.Name)
 
-value_covers : (s : TokenKind) → value_branches.Here s ⊎ (value_by s ≡ fail)
+pub value_covers : (s : TokenKind) → value_branches.Here s ⊎ (value_by s ≡ fail)
 value_covers S.Number = inl (inl (inl (inl (inl (inl (inl refl))))))
 value_covers (S.Sign Sg.Minus) = inl (inl (inl (inl (inl (inl (inr refl))))))
 value_covers S.Str = inl (inl (inl (inl (inl (inr refl)))))

@@ -1,2 +1,3 @@
 pub mod AgreeBindings
 pub mod Agreeing
+pub mod PlacesBindings

@@ -74,7 +74,7 @@ pub record Loop {A : Type 0} (R : List Lexeme → A → List Lexeme → Type 0) 
 next_is : (test : TokenKind → Bool) (from : List Lexeme) → Next (Passes test) from → next_passes test from ≡ true
 next_is test from n = rw (n.front, n.passes) refl
 
-while_sound : {A : Type 0} (R : Rule A) (r : Reading A) (test : TokenKind → Bool) → Sound R r → (most : ℕ) (from : List Lexeme) (xs : List A) (rest : List Lexeme)
+pub while_sound : {A : Type 0} (R : Rule A) (r : Reading A) (test : TokenKind → Bool) → Sound R r → (most : ℕ) (from : List Lexeme) (xs : List A) (rest : List Lexeme)
     → while_at test r most from ≡ Ok (xs, rest) → up_to most R from xs rest
 unfolding while_at
 while_sound R r test sound zero from xs rest e = same_read (λ ys a. up_to 0 R from ys a) e (none from, omega arith)

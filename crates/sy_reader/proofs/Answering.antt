@@ -5,7 +5,9 @@ use Rattle.sy_base.specs.declared.refusal.FileKind.{FileKind}
 use Rattle.sy_base.specs.declared.refusal.Refused.{Refused}
 use Rattle.sy_base.specs.declared.refusal.Refused.TheVariants as R
 use Rattle.sy_lex.specs.declared.token.Token.{Token}
-use Rattle.sy_reader.specs.Faults.{Answers, IsReadAs, IsSyntaxFault}
+use Rattle.sy_lex.specs.Lexemes.{Lexeme, lexemes_of}
+use Rattle.sy_reader.specs.Faults.{IsFaultAt, IsReadAs, IsSyntaxFault}
+use Rattle.sy_reader.specs.Machine.Parsing.{Answers}
 
 abbrev done : {A : Type 0} → A → Result A ℕ
 done x = Ok x
@@ -30,7 +32,8 @@ module _ {A : Type 0} (file : FileKind) (source : List ℕ) (tokens : List Token
       differ : (left : ℕ) (x : A) → failed left ≡ done x → ⊥
       differ left x h = cc
 
-  pub is_fault : (result : Result A Refused) (read : Result A ℕ) → Answers file source tokens result read → IfErr result (IsSyntaxFault file source tokens)
-  is_fault (Ok tree) read e = tt
-  is_fault (Err R.Memory) read e = tt
-  is_fault (Err (R.Refusal refusal)) read e = (length tokens - e.0, e.2)
+  pub is_fault : (spells : A → List Lexeme → Type 0) (result : Result A Refused) (read : Result A ℕ) → Answers file source tokens result read
+      → ((n : ℕ) → read ≡ Err n → IsFaultAt spells (lexemes_of source tokens) (length tokens - n)) → IfErr result (IsSyntaxFault file spells source tokens)
+  is_fault spells (Ok tree) read e fault = tt
+  is_fault spells (Err R.Memory) read e fault = tt
+  is_fault spells (Err (R.Refusal refusal)) read e fault = (length tokens - e.0, fault e.0 e.1, e.2)

@@ -5,3 +5,7 @@ pub mod AgreeMany
 pub mod Agreeing
 pub mod Answering
 pub mod Loops
+pub mod Places
+pub mod PlacesChoices
+pub mod PlacesFaults
+pub mod PlacesMany

@@ -1,7 +1,6 @@
 ghost use Rattle.std.specs.Prelude.{◌≡◌, ◌<◌, ◌^◌, length, IfOk};
 ghost use Rattle.sy_lex.specs.Lexemes.{lexemes_of};
-ghost use Rattle.sy_reader.specs.Faults as faults;
-ghost use Rattle.sy_reader.specs.Faults.{Answers};
+ghost use Rattle.sy_reader.specs.Machine.Parsing.{Answers, syntax_fault_of};
 ghost use Rattle.sy_reader.specs.Machine.Reading.{Gives, whole_at};
 
 use crate::production::Production;
@@ -30,7 +29,7 @@ fn syntax_fault(
     left: usize,
 ) -> Result<Refusal, Memory>
     requires few { length source.now < 2 ^ 32 }
-    ensures { IfOk result (λ refusal. refusal ≡ faults.syntax_fault_of file source.now tokens.now left) }
+    ensures { IfOk result (λ refusal. refusal ≡ syntax_fault_of file source.now tokens.now left) }
 {
     let (place, words) = match tokens.get(tokens.len().saturating_sub(left)) {
         Some(token) => (token.place, token.text(source)),

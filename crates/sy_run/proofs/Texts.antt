@@ -27,7 +27,7 @@ module _ {A : Type 0} (file : FileKind) (spells : A → List Lexeme → Type 0) 
 
   -- no tree
   pub not_spelled : (tokens : List Token) → HasText tokens bytes → (why : Refused) → ((tree : A) → spells tree (lexemes_of bytes tokens) → faults.IsReadAs {A = A} (Err why) tree)
-      → IsSyntaxFault file bytes tokens why → IsToldAs (IsTree file spells bytes) (Err (stop_of why))
+      → IsSyntaxFault file spells bytes tokens why → IsToldAs (IsTree file spells bytes) (Err (stop_of why))
   not_spelled tokens has R.Memory only fault = tt
   not_spelled tokens has (R.Refusal refusal) only fault = no_tree bytes tokens refusal has only fault
 

@@ -33,7 +33,7 @@ pub data IsTree {A : Type 0} (file : FileKind) (spells : A → List Lexeme → T
       → IsLexFault file bytes (R.Refusal refusal) → IsTree file spells bytes (Err (stop.Refused refusal))
   no_tree : (bytes : List ℕ) (tokens : List Token) (refusal : Refusal) → HasText tokens bytes
       → ((tree : A) → spells tree (lexemes_of bytes tokens) → ⊥)
-      → IsSyntaxFault file bytes tokens (R.Refusal refusal) → IsTree file spells bytes (Err (stop.Refused refusal))
+      → IsSyntaxFault file spells bytes tokens (R.Refusal refusal) → IsTree file spells bytes (Err (stop.Refused refusal))
   one_tree : (bytes : List ℕ) (tokens : List Token) (tree : A) → HasText tokens bytes
       → spells tree (lexemes_of bytes tokens) → IsTree file spells bytes (Ok tree)
 

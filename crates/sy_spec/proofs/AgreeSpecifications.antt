@@ -40,11 +40,11 @@ unfolding enumeration_at
 enumeration_agrees = then_any (keyword_agrees K.Enumeration) λ _. node_agrees (λ constants. record { constants = constants })
     (behind_agrees Open (before_agrees Close (listed_agrees 0 (omega arith) (anywhere (token_agrees S.Word))) (ends_at 6 (S.Sign Close) (omega arith))))
 
-abbrev base_branches : Branches base base_by Any
+abbrev pub base_branches : Branches base base_by Any
 base_branches = case (begins_then (keyword_begins K.Role)) (node_agrees Base.Role (keyword_agrees K.Role)) or case (begins_then (keyword_begins K.Asset)) (node_agrees Base.Asset (keyword_agrees K.Asset))
     or case (begins_then (keyword_begins K.Event)) (node_agrees Base.Event (keyword_agrees K.Event)) or case (begins_then (token_begins S.Word)) (token_case S.Word Base.Named)
 
-base_covers : (s : TokenKind) → base_branches.Here s ⊎ (base_by s ≡ fail)
+pub base_covers : (s : TokenKind) → base_branches.Here s ⊎ (base_by s ≡ fail)
 base_covers (S.Reserved K.Role) = inl (inl (inl (inl refl)))
 base_covers (S.Reserved K.Asset) = inl (inl (inl (inr refl)))
 base_covers (S.Reserved K.Event) = inl (inl (inr refl))
@@ -75,7 +75,7 @@ with_agrees j above one = optional_agrees (S.Reserved K.With) [] (begins_then (k
 is_a_agrees : Agrees (grammar.◌or◌ (keyword K.IsA) (keyword K.IsAn)) is_a_at Any
 is_a_agrees = either_agrees (S.Reserved K.IsAn) (begins_as (keyword_begins K.IsA) refl) (keyword_begins K.IsAn) (keyword_agrees K.IsA) (keyword_agrees K.IsAn)
 
-abbrev derived : Written → Rule TypeTree
+abbrev pub derived : Written → Rule TypeTree
 derived name = grammar.◌>>=◌ base λ b. grammar.◌>>=◌ (with_listed attr) λ attributes. spelled (AType.Derived name b attributes)
 
 derived_agrees : (name : Written) → Agrees (derived name) (derived_at name) (Ends 6)
@@ -97,34 +97,39 @@ domain_agrees = then_any (keyword_agrees K.Domain) λ _. then_any (token_agrees 
     (λ types. then_any (keyword_agrees K.EndDomain) λ _. spelled_agrees _)
     (λ types mid y rest d f. ends_at 7 (S.Reserved K.EndDomain) (omega arith) mid ((keyword_begins K.EndDomain).next mid d.0 d.1 d.2))
 
-abbrev unit_of : TimeUnit → Rule UnitTree
+abbrev pub unit_of : TimeUnit → Rule UnitTree
 unit_of u = grammar.◌>>=◌ (keyword (unit_word u)) λ place. spelled (record { unit = u; place = place })
 
-abbrev some_unit : Rule UnitTree
+abbrev pub some_unit : Rule UnitTree
 some_unit from x rest = (u : TimeUnit) × unit_of u from x rest
 
-abbrev unit_reads : TimeUnit → Reading UnitTree
+abbrev pub unit_reads : TimeUnit → Reading UnitTree
 unit_reads u = unit_of_at (Some u) (unit_word u)
 
-unit_by_word : (u : TimeUnit) → unit_by (S.Reserved (unit_word u)) ≡ unit_reads u
+pub unit_by_word : (u : TimeUnit) → unit_by (S.Reserved (unit_word u)) ≡ unit_reads u
 unit_by_word Minute = refl
 unit_by_word Hour = refl
 unit_by_word Day = refl
 
-abbrev unit_branches : Branches some_unit unit_by Any
+abbrev pub unit_branches : Branches some_unit unit_by Any
 unit_branches = tagged unit_reads (λ u. S.Reserved (unit_word u)) (λ u. begins_then (keyword_begins (unit_word u))) unit_by_word (λ u. node_agrees (λ place. record { unit = u; place = place }) (keyword_agrees (unit_word u)))
 
-unit_covers : (s : TokenKind) → unit_branches.Here s ⊎ (unit_by s ≡ fail)
+pub unit_covers : (s : TokenKind) → unit_branches.Here s ⊎ (unit_by s ≡ fail)
 unit_covers (S.Reserved K.Minute) = inl (Minute, refl)
 unit_covers (S.Reserved K.Hour) = inl (Hour, refl)
 unit_covers (S.Reserved K.Day) = inl (Day, refl)
 unit_covers s = inr refl
 
+-- the two forms of the rule
+pub unit_to : (from : List Lexeme) (x : UnitTree) (rest : List Lexeme) → some_unit from x rest → unit from x rest
+unit_to from x rest d = subst (λ (y : UnitTree). keyword (unit_word y.unit) from y.place rest) d.1.3.0 (subst (λ (mid : List Lexeme). keyword (unit_word d.0) from d.1.0 mid) d.1.3.1 d.1.2)
+
+pub unit_back : (from : List Lexeme) (x : UnitTree) (rest : List Lexeme) → unit from x rest → some_unit from x rest
+unit_back from x rest d = (x.unit, (x.place, rest, d, (refl, refl)))
+
 unit_agrees : Agrees unit unit_at Any
 unfolding unit_at
-unit_agrees = same_agrees (by_next_agrees unit_branches unit_covers)
-    (λ from x rest d. subst (λ (y : UnitTree). keyword (unit_word y.unit) from y.place rest) d.1.3.0 (subst (λ (mid : List Lexeme). keyword (unit_word d.0) from d.1.0 mid) d.1.3.1 d.1.2))
-    (λ from x rest d. (x.unit, (x.place, rest, d, (refl, refl))))
+unit_agrees = same_agrees (by_next_agrees unit_branches unit_covers) unit_to unit_back
 
 param_agrees : Agrees param param_at Any
 unfolding param_at
@@ -150,26 +155,26 @@ oblig_agrees = then_any (before_any Colon (token_agrees S.Word)) λ name. then_a
     (λ consequent. record { name = name; trigger = trigger; debtor = debtor; creditor = creditor; antecedent = antecedent; consequent = consequent }) (before_agrees Close prop_agrees (ends_at 5 (S.Sign Close) (omega arith))))
     (λ trigger mid y rest d f. (keyword_begins K.O).next mid d.0 d.1 d.2)
 
-abbrev verb_of : Verb → Rule VerbTree
+abbrev pub verb_of : Verb → Rule VerbTree
 verb_of v = grammar.◌>>=◌ (keyword (verb_word v)) λ place. spelled (record { verb = v; place = place })
 
-abbrev some_verb : Rule VerbTree
+abbrev pub some_verb : Rule VerbTree
 some_verb from x rest = (v : Verb) × verb_of v from x rest
 
-abbrev verb_reads : Verb → Reading VerbTree
+abbrev pub verb_reads : Verb → Reading VerbTree
 verb_reads v = verb_of_at (Some v) (verb_word v)
 
-verb_by_word : (v : Verb) → verb_by (S.Reserved (verb_word v)) ≡ verb_reads v
+pub verb_by_word : (v : Verb) → verb_by (S.Reserved (verb_word v)) ≡ verb_reads v
 verb_by_word V.Suspends = refl
 verb_by_word V.Resumes = refl
 verb_by_word V.Discharges = refl
 verb_by_word V.Terminates = refl
 verb_by_word V.Triggers = refl
 
-abbrev verb_branches : Branches some_verb verb_by Any
+abbrev pub verb_branches : Branches some_verb verb_by Any
 verb_branches = tagged verb_reads (λ v. S.Reserved (verb_word v)) (λ v. begins_then (keyword_begins (verb_word v))) verb_by_word (λ v. node_agrees (λ place. record { verb = v; place = place }) (keyword_agrees (verb_word v)))
 
-verb_covers : (s : TokenKind) → verb_branches.Here s ⊎ (verb_by s ≡ fail)
+pub verb_covers : (s : TokenKind) → verb_branches.Here s ⊎ (verb_by s ≡ fail)
 verb_covers (S.Reserved K.Suspends) = inl (V.Suspends, refl)
 verb_covers (S.Reserved K.Resumes) = inl (V.Resumes, refl)
 verb_covers (S.Reserved K.Discharges) = inl (V.Discharges, refl)
@@ -177,11 +182,16 @@ verb_covers (S.Reserved K.Terminates) = inl (V.Terminates, refl)
 verb_covers (S.Reserved K.Triggers) = inl (V.Triggers, refl)
 verb_covers s = inr refl
 
+-- the two forms of the rule
+pub verb_to : (from : List Lexeme) (x : VerbTree) (rest : List Lexeme) → some_verb from x rest → verb from x rest
+verb_to from x rest d = subst (λ (y : VerbTree). keyword (verb_word y.verb) from y.place rest) d.1.3.0 (subst (λ (mid : List Lexeme). keyword (verb_word d.0) from d.1.0 mid) d.1.3.1 d.1.2)
+
+pub verb_back : (from : List Lexeme) (x : VerbTree) (rest : List Lexeme) → verb from x rest → some_verb from x rest
+verb_back from x rest d = (x.verb, (x.place, rest, d, (refl, refl)))
+
 verb_agrees : Agrees verb verb_at Any
 unfolding verb_at
-verb_agrees = same_agrees (by_next_agrees verb_branches verb_covers)
-    (λ from x rest d. subst (λ (y : VerbTree). keyword (verb_word y.verb) from y.place rest) d.1.3.0 (subst (λ (mid : List Lexeme). keyword (verb_word d.0) from d.1.0 mid) d.1.3.1 d.1.2))
-    (λ from x rest d. (x.verb, (x.place, rest, d, (refl, refl))))
+verb_agrees = same_agrees (by_next_agrees verb_branches verb_covers) verb_to verb_back
 
 act_agrees : Agrees act act_at Any
 unfolding act_at

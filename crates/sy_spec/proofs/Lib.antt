@@ -1,3 +1,4 @@
 pub mod AgreeLines
 pub mod AgreeSpecifications
 pub mod Agreeing
+pub mod PlacesSpecifications

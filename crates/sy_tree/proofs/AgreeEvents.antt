@@ -33,21 +33,21 @@ use Rattle.sy_reader.specs.Grammar.{Rule, spelled, token, sign, keyword, between
 use Rattle.sy_tree.specs.Terms.{path, compares, cmp, target, guard, kind_word, event, situation, measure, duration, moment, date}
 use Rattle.sy_reader.specs.Machine.Reading as reader
 use Rattle.sy_reader.specs.Machine.Reading.{Reading, give, fail, sign_at, by_next, between_at, listed_at}
-use Rattle.sy_tree.specs.Machine.ReadingTerms.{cmp_by, cmp_at, target_at, guard_at, guards_at, declared_at, kind_of_token, internal_or_declared, event_at, equality_at, situation_at, names_measure, measure_of_word, measured_at, measure_by, measure_at, count_at, duration_at, moment_by, moment_at, date_at}
+use Rattle.sy_tree.specs.Machine.ReadingTerms.{cmp_by, cmp_at, target_at, guard_at, guards_at, declared_at, kind_of_token, next_kind, internal_or_declared, event_at, equality_at, situation_at, names_measure, measure_of_word, measured_at, measure_by, measure_at, count_at, duration_at, moment_by, moment_at, date_at}
 use Rattle.sy_reader.proofs.Agree.{Agrees, Any, Begins, spelled_agrees, weaker_agrees, anywhere, same_agrees, reads_agrees, swap_agrees, then_agrees, then_any, node_agrees, token_agrees, keyword_agrees, sign_agrees, behind_agrees, before_agrees, before_any, begins_then, begins_or, begins_as, token_begins, keyword_begins, sign_begins}
 use Rattle.sy_reader.proofs.AgreeMany.{Ends, Without, rank, ends_at, ends_next, ends_without, loop_behind, first_and_few, listed_agrees}
 use Rattle.sy_reader.proofs.AgreeChoices.{Branches, branch, case, case_at, tagged, same_branches, ◌or◌, by_next_agrees, token_case, optional_agrees, either_agrees}
 use Rattle.sy_tree.proofs.AgreeTerms.{path_agrees, path_begins, rhs_agrees}
 
-compares_agrees : (s : Sign) (c : Cmp) → Agrees (compares s c) (reader.◌>>=◌ (sign_at s) λ place. give (record { cmp = c; place = place })) Any
+pub compares_agrees : (s : Sign) (c : Cmp) → Agrees (compares s c) (reader.◌>>=◌ (sign_at s) λ place. give (record { cmp = c; place = place })) Any
 compares_agrees s c = then_any (sign_agrees s) λ place. spelled_agrees _
 
-abbrev cmp_branches : Branches cmp cmp_by Any
+abbrev pub cmp_branches : Branches cmp cmp_by Any
 cmp_branches =
     case (begins_then (sign_begins Sg.Equal)) (compares_agrees Sg.Equal C.Eq) or case (begins_then (sign_begins Sg.NotEqual)) (compares_agrees Sg.NotEqual C.Ne) or case (begins_then (sign_begins Sg.Less)) (compares_agrees Sg.Less C.Lt)
     or case (begins_then (sign_begins Sg.AtMost)) (compares_agrees Sg.AtMost C.Le) or case (begins_then (sign_begins Sg.Greater)) (compares_agrees Sg.Greater C.Gt) or case (begins_then (sign_begins Sg.AtLeast)) (compares_agrees Sg.AtLeast C.Ge)
 
-cmp_covers : (s : TokenKind) → cmp_branches.Here s ⊎ (cmp_by s ≡ fail)
+pub cmp_covers : (s : TokenKind) → cmp_branches.Here s ⊎ (cmp_by s ≡ fail)
 cmp_covers (S.Sign Sg.Equal) = inl (inl (inl (inl (inl (inl refl)))))
 cmp_covers (S.Sign Sg.NotEqual) = inl (inl (inl (inl (inl (inr refl)))))
 cmp_covers (S.Sign Sg.Less) = inl (inl (inl (inl (inr refl))))
@@ -75,7 +75,7 @@ guard_agrees : Agrees guard guard_at (Ends 3)
 unfolding guard_at
 guard_agrees = then_any (token_agrees S.Word) λ name. then_any cmp_agrees λ cmp. node_agrees (λ value. record { name = name; cmp = cmp; value = value }) rhs_agrees
 
-abbrev guarded : Rule (List GuardTree)
+abbrev pub guarded : Rule (List GuardTree)
 guarded = between OpenBracket (listed guard) CloseBracket
 
 guarded_agrees : Agrees guarded (between_at OpenBracket (listed_at guard_at) CloseBracket) Any
@@ -85,25 +85,25 @@ guards_agree : Agrees (grammar.◌or◌ guarded (spelled [])) guards_at (Without
 guards_agree = optional_agrees (S.Sign OpenBracket) [] (begins_then (sign_begins OpenBracket)) (anywhere guarded_agrees) (λ rest f. f)
 
 -- an event with guards or without
-abbrev declared : Rule EventTree
+abbrev pub declared : Rule EventTree
 declared = grammar.◌>>=◌ (token S.Word) λ name. grammar.◌>>=◌ (grammar.◌or◌ guarded (spelled [])) λ guards. spelled (Event.Declared name guards)
 
-declared_agrees : Agrees declared declared_at (Ends 1)
+pub declared_agrees : Agrees declared declared_at (Ends 1)
 declared_agrees = then_any (token_agrees S.Word) λ name. node_agrees (Event.Declared name) (weaker_agrees guards_agree (ends_without 1 (S.Sign OpenBracket) (omega arith)))
 
-abbrev internal : Kind → Rule EventTree
+abbrev pub internal : Kind → Rule EventTree
 internal kind = grammar.◌>>=◌ (keyword (kind_word kind)) λ place. grammar.◌>>=◌ (between Open target Close) λ target. spelled (Event.Internal kind place target)
 
-abbrev internal_at : Kind → Reading EventTree
+abbrev pub internal_at : Kind → Reading EventTree
 internal_at kind = internal_or_declared (Some (kind, kind_word kind))
 
-internal_agrees : (kind : Kind) → Agrees (internal kind) (internal_at kind) (Ends 1)
+pub internal_agrees : (kind : Kind) → Agrees (internal kind) (internal_at kind) (Ends 1)
 internal_agrees kind = then_any (keyword_agrees (kind_word kind)) λ place. anywhere (node_agrees (Event.Internal kind place) (behind_agrees Open (before_any Close target_agrees)))
 
-abbrev event_by : TokenKind → Reading EventTree
+abbrev pub event_by : TokenKind → Reading EventTree
 event_by kind = internal_or_declared (kind_of_token kind)
 
-internal_by : (kind : Kind) → event_by (S.Reserved (kind_word kind)) ≡ internal_at kind
+pub internal_by : (kind : Kind) → event_by (S.Reserved (kind_word kind)) ≡ internal_at kind
 internal_by E.Exerted = refl
 internal_by E.Triggered = refl
 internal_by E.Activated = refl
@@ -116,13 +116,13 @@ internal_by E.Discharged = refl
 internal_by E.Terminated = refl
 internal_by E.Completed = refl
 
-abbrev some_internal : Rule EventTree
+abbrev pub some_internal : Rule EventTree
 some_internal from x rest = (kind : Kind) × internal kind from x rest
 
-abbrev event_branches : Branches (grammar.◌or◌ declared some_internal) event_by (Ends 1)
+abbrev pub event_branches : Branches (grammar.◌or◌ declared some_internal) event_by (Ends 1)
 event_branches = case_at (begins_then (token_begins S.Word)) declared_agrees or tagged internal_at (λ kind. S.Reserved (kind_word kind)) (λ kind. begins_then (keyword_begins (kind_word kind))) internal_by internal_agrees
 
-event_covers : (s : TokenKind) → event_branches.Here s ⊎ (event_by s ≡ fail)
+pub event_covers : (s : TokenKind) → event_branches.Here s ⊎ (event_by s ≡ fail)
 event_covers (S.Reserved K.Exerted) = inl (inr (E.Exerted, refl))
 event_covers (S.Reserved K.Triggered) = inl (inr (E.Triggered, refl))
 event_covers (S.Reserved K.Activated) = inl (inr (E.Activated, refl))
@@ -137,23 +137,24 @@ event_covers (S.Reserved K.Completed) = inl (inr (E.Completed, refl))
 event_covers s = inl (inl refl)
 
 -- the two forms of the rule for events
-event_to : (from : List Lexeme) (x : EventTree) (rest : List Lexeme) → grammar.◌or◌ declared some_internal from x rest → event from x rest
+pub event_to : (from : List Lexeme) (x : EventTree) (rest : List Lexeme) → grammar.◌or◌ declared some_internal from x rest → event from x rest
 event_to from x rest (inl (name, mid, d, (guards, after, inl d', e))) = inl (inr (name, mid, d, (guards, after, d', e)))
 event_to from x rest (inl (name, mid, d, (guards, after, inr none, e))) = inl (inl (name, mid, d, (ap (Event.Declared name) none.0 ∙ e.0, none.1 ∙ e.1)))
 event_to from x rest (inr (kind, (place, mid, d, d'))) = inr ((kind, place), mid, d, d')
 
-event_back : (from : List Lexeme) (x : EventTree) (rest : List Lexeme) → event from x rest → grammar.◌or◌ declared some_internal from x rest
+pub event_back : (from : List Lexeme) (x : EventTree) (rest : List Lexeme) → event from x rest → grammar.◌or◌ declared some_internal from x rest
 event_back from x rest (inl (inl (name, mid, d, e))) = inl (name, mid, d, ([], mid, inr (refl, refl), e))
 event_back from x rest (inl (inr (name, mid, d, (guards, after, d', e)))) = inl (name, mid, d, (guards, after, inl d', e))
 event_back from x rest (inr (kind, mid, d, d')) = inr (kind.0, (kind.1, mid, d, d'))
 
+-- an event is read by the kind of the next lexeme
+pub event_by_next : (from : List Lexeme) → internal_or_declared (next_kind from) from ≡ by_next event_by from
+event_by_next [] = refl
+event_by_next (l ∷ ls) = refl
+
 pub event_agrees : Agrees event event_at (Ends 1)
 unfolding event_at
-event_agrees = reads_agrees (same_agrees (by_next_agrees event_branches event_covers) event_to event_back) same
-  where
-    same : (from : List Lexeme) → event_at from ≡ by_next event_by from
-    same [] = refl
-    same (l ∷ ls) = refl
+event_agrees = reads_agrees (same_agrees (by_next_agrees event_branches event_covers) event_to event_back) event_by_next
 
 equality_agrees : Agrees (grammar.◌or◌ (grammar.◌>>=◌ (sign Sg.Equal) λ _. spelled true) (grammar.◌>>=◌ (sign Sg.NotEqual) λ _. spelled false)) equality_at Any
 equality_agrees = either_agrees (S.Sign Sg.NotEqual) (begins_as (begins_then (sign_begins Sg.Equal)) refl) (begins_then (sign_begins Sg.NotEqual)) (then_any (sign_agrees Sg.Equal) λ _. spelled_agrees true) (then_any (sign_agrees Sg.NotEqual) λ _. spelled_agrees false)
@@ -164,11 +165,11 @@ situation_agrees = then_any (keyword_agrees K.State) λ place. then_any (behind_
 
 -- ---- a measure by one of its two words
 
-abbrev measure_of : Measure → Written → MeasureTree
+abbrev pub measure_of : Measure → Written → MeasureTree
 measure_of measure word = record { measure = measure; word = word }
 
 -- some measure, by the word that it has here
-abbrev named_by : (Measure → Keyword) → Rule MeasureTree
+abbrev pub named_by : (Measure → Keyword) → Rule MeasureTree
 named_by word from x rest =
     (m : Measure) × grammar.◌>>=◌ (token (S.Reserved (word m))) (λ w. spelled (measure_of m w)) from x rest
 
@@ -182,35 +183,35 @@ named_back : (word : Measure → Keyword) (from : List Lexeme) (x : MeasureTree)
     → token (S.Reserved (word x.measure)) from x.word rest → named_by word from x rest
 named_back word from x rest d = (x.measure, (x.word, rest, d, (refl, refl)))
 
-measure_to : (from : List Lexeme) (x : MeasureTree) (rest : List Lexeme)
+pub measure_to : (from : List Lexeme) (x : MeasureTree) (rest : List Lexeme)
     → grammar.◌or◌ (named_by singular_keyword) (named_by plural_keyword) from x rest → measure from x rest
 measure_to from x rest (inl d) = inl (named_to singular_keyword from x rest d)
 measure_to from x rest (inr d) = inr (named_to plural_keyword from x rest d)
 
-measure_back : (from : List Lexeme) (x : MeasureTree) (rest : List Lexeme)
+pub measure_back : (from : List Lexeme) (x : MeasureTree) (rest : List Lexeme)
     → measure from x rest → grammar.◌or◌ (named_by singular_keyword) (named_by plural_keyword) from x rest
 measure_back from x rest (inl d) = inl (named_back singular_keyword from x rest d)
 measure_back from x rest (inr d) = inr (named_back plural_keyword from x rest d)
 
 -- each of them is read by either word: the second equation is checked at each of the other measures
-singular_by : (m : Measure) → measure_by (S.Reserved (singular_keyword m)) ≡ measured_at (Some m) (singular_keyword m)
+pub singular_by : (m : Measure) → measure_by (S.Reserved (singular_keyword m)) ≡ measured_at (Some m) (singular_keyword m)
 unfolding measure_of_word
 singular_by M.Minutes = refl
 singular_by m = refl
 
-plural_by : (m : Measure) → measure_by (S.Reserved (plural_keyword m)) ≡ measured_at (Some m) (plural_keyword m)
+pub plural_by : (m : Measure) → measure_by (S.Reserved (plural_keyword m)) ≡ measured_at (Some m) (plural_keyword m)
 unfolding measure_of_word
 plural_by M.Minutes = refl
 plural_by m = refl
 
-abbrev named_branches : (word : Measure → Keyword)
+abbrev pub named_branches : (word : Measure → Keyword)
     → ((m : Measure) → measure_by (S.Reserved (word m)) ≡ measured_at (Some m) (word m))
     → Branches (named_by word) measure_by Any
 named_branches word by =
     tagged (λ m. measured_at (Some m) (word m)) (λ m. S.Reserved (word m)) (λ m. begins_then (token_begins (S.Reserved (word m)))) by
     (λ m. token_case (S.Reserved (word m)) (measure_of m))
 
-abbrev measure_branches : Branches measure measure_by Any
+abbrev pub measure_branches : Branches measure measure_by Any
 measure_branches =
     same_branches (named_branches singular_keyword singular_by or named_branches plural_keyword plural_by) measure_to measure_back
 
@@ -227,7 +228,7 @@ is_named word m names =
       | inr several ↦ inr (same_true the_keywords (search rules) word (plural_keyword m) several)
     ]
 
-measure_covers : (s : TokenKind) → measure_branches.Here s ⊎ (measure_by s ≡ fail)
+pub measure_covers : (s : TokenKind) → measure_branches.Here s ⊎ (measure_by s ≡ fail)
 unfolding measure_of_word
 measure_covers (S.Reserved word) = covers (measure_of_word word) refl (found (names_measure word) measures)
   where
@@ -270,11 +271,11 @@ duration_agrees : Agrees duration duration_at Any
 unfolding duration_at
 duration_agrees = then_agrees count_agrees (λ count. node_agrees _ measure_agrees) (λ count mid y rest d f. ends_next 1 mid (measure_begins.next mid d.0 d.1 d.2))
 
-abbrev moment_branches : Branches moment moment_by (Ends 1)
+abbrev pub moment_branches : Branches moment moment_by (Ends 1)
 moment_branches = case (begins_then (token_begins S.Date)) (token_case S.Date Moment.Fixed) or branch (begins_then path_begins) (λ s e. ap moment_by e) (node_agrees Moment.Path path_agrees)
     or case (begins_then (keyword_begins K.Time)) (then_any (keyword_agrees K.Time) λ place. node_agrees (Moment.Time place) (behind_agrees Open (before_agrees Close event_agrees (ends_at 1 (S.Sign Close) (omega arith)))))
 
-moment_covers : (s : TokenKind) → moment_branches.Here s ⊎ (moment_by s ≡ fail)
+pub moment_covers : (s : TokenKind) → moment_branches.Here s ⊎ (moment_by s ≡ fail)
 moment_covers S.Date = inl (inl (inl refl))
 moment_covers (S.Reserved K.Time) = inl (inr refl)
 moment_covers s = inl (inl (inr refl))

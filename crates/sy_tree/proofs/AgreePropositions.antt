@@ -31,15 +31,15 @@ begins_agrees = node_agrees _ ahead_agrees
 first_begins : {A : Type 0} {T : TokenKind → Type 0} {next : First → Rule A} → ((first : First) → Begins (next first) T) → Begins (grammar.◌>>=◌ begins next) T
 first_begins {T = T} {next = next} each = record { next = λ from y rest d. let stays : d.1 ≡ from = sym (d.2.2.4 ∙ d.2.3.1) in subst (Next T) stays ((each d.0).next d.1 y rest d.3) }
 
-constant_agrees : (word : Keyword) (value : Bool) → Agrees (constant word value) (constant_at word value) Any
+pub constant_agrees : (word : Keyword) (value : Bool) → Agrees (constant word value) (constant_at word value) Any
 unfolding constant_at
 constant_agrees word value = then_any begins_agrees λ first. then_any (keyword_agrees word) λ _. spelled_agrees (P.Const value first)
 
-comparison_agrees : Agrees comparison comparison_at (Ends 3)
+pub comparison_agrees : Agrees comparison comparison_at (Ends 3)
 unfolding comparison_at
 comparison_agrees = then_any begins_agrees λ first. then_agrees term_agrees (λ left. then_any cmp_agrees λ cmp. node_agrees (λ right. P.Compare left cmp right first) rhs_agrees) (λ left mid y rest d f. ends_next 3 mid (cmp_begins.next mid d.0 d.1 d.2))
 
-happens_agrees : Agrees happens happens_at Any
+pub happens_agrees : Agrees happens happens_at Any
 unfolding happens_at
 happens_agrees = then_any begins_agrees λ first. then_any (keyword_agrees K.Happens) λ _. node_agrees (λ event. P.Happens event first) (behind_agrees Open (before_agrees Close event_agrees (ends_at 1 (S.Sign Close) (omega arith))))
 
@@ -47,7 +47,7 @@ event_and_date_agrees : Agrees event_and_date event_and_date_at (Ends 3)
 unfolding event_and_date_at
 event_and_date_agrees = then_any (before_agrees Comma event_agrees (ends_at 1 (S.Sign Comma) (omega arith))) λ event. node_agrees (λ date. (event, date)) date_agrees
 
-dated_agrees : (word : Keyword) (node : EventTree → DateTree → First → PropTree) → Agrees (dated word node) (dated_at word node) Any
+pub dated_agrees : (word : Keyword) (node : EventTree → DateTree → First → PropTree) → Agrees (dated word node) (dated_at word node) Any
 unfolding dated_at
 dated_agrees word node = then_any begins_agrees λ first. then_any (keyword_agrees word) λ _. node_agrees (λ parts. node parts.0 parts.1 first) (behind_agrees Open (before_agrees Close event_and_date_agrees (ends_at 3 (S.Sign Close) (omega arith))))
 
@@ -55,17 +55,17 @@ two_dates_agree : Agrees two_dates two_dates_at (Ends 3)
 unfolding two_dates_at
 two_dates_agree = then_any (before_agrees Comma date_agrees (ends_at 3 (S.Sign Comma) (omega arith))) λ from. node_agrees (λ to. (from, to)) date_agrees
 
-happens_within_agrees : Agrees happens_within happens_within_at Any
+pub happens_within_agrees : Agrees happens_within happens_within_at Any
 unfolding happens_within_at
 happens_within_agrees = then_any begins_agrees λ first. then_any (keyword_agrees K.HappensWithin) λ _. then_any (sign_agrees Open) λ _. then_any (before_agrees Comma event_agrees (ends_at 1 (S.Sign Comma) (omega arith))) λ event.
     node_agrees (λ dates. P.Within event dates.0 dates.1 first) (before_agrees Close two_dates_agree (ends_at 3 (S.Sign Close) (omega arith)))
 
-occurs_agrees : Agrees occurs occurs_at Any
+pub occurs_agrees : Agrees occurs occurs_at Any
 unfolding occurs_at
 occurs_agrees = then_any begins_agrees λ first. then_any (keyword_agrees K.Occurs) λ _. then_any (sign_agrees Open) λ _. then_any (before_any Comma situation_agrees) λ situation.
     node_agrees (λ dates. P.Occurs situation dates.0 dates.1 first) (before_agrees Close two_dates_agree (ends_at 3 (S.Sign Close) (omega arith)))
 
-holds_agrees : Agrees holds holds_at Any
+pub holds_agrees : Agrees holds holds_at Any
 unfolding holds_at
 holds_agrees = then_any begins_agrees λ first. then_any (keyword_agrees K.Holds) λ _. node_agrees (λ situation. P.Holds situation first) (behind_agrees Open (before_any Close situation_agrees))
 
@@ -86,7 +86,7 @@ in_line (S.Reserved K.EndContract) = false
 in_line kind = true
 
 -- what an atom begins with
-abbrev OfAtom : TokenKind → Type 0
+abbrev pub OfAtom : TokenKind → Type 0
 OfAtom kind = (in_line kind ≡ true) × Differs (S.Reserved K.Not) kind × Differs (S.Sign Open) kind
 
 term_in_line : (s : TokenKind) → BeginsTerm s → OfAtom s
@@ -96,26 +96,26 @@ term_in_line s str = (refl, refl, refl)
 term_in_line s date = (refl, refl, refl)
 term_in_line s name = (refl, refl, refl)
 
-comparison_begins : Begins comparison BeginsTerm
+pub comparison_begins : Begins comparison BeginsTerm
 comparison_begins = first_begins λ first. begins_then term_begins
 
-worded_begins : (word : Keyword) {next : First → Place → Rule PropTree} → Begins (grammar.◌>>=◌ begins λ first. grammar.◌>>=◌ (keyword word) λ place. next first place) (Is (S.Reserved word))
+pub worded_begins : (word : Keyword) {next : First → Place → Rule PropTree} → Begins (grammar.◌>>=◌ begins λ first. grammar.◌>>=◌ (keyword word) λ place. next first place) (Is (S.Reserved word))
 worded_begins word = first_begins λ first. begins_then (keyword_begins word)
 
-atom_of_term : (s : TokenKind) → BeginsTerm s → atom_by s ≡ comparison_at
+pub atom_of_term : (s : TokenKind) → BeginsTerm s → atom_by s ≡ comparison_at
 atom_of_term s number = refl
 atom_of_term s minus = refl
 atom_of_term s str = refl
 atom_of_term s date = refl
 atom_of_term s name = refl
 
-abbrev atom_branches : Branches atom atom_by (Ends 3)
+abbrev pub atom_branches : Branches atom atom_by (Ends 3)
 atom_branches =
     case (worded_begins K.True) (constant_agrees K.True true) or case (worded_begins K.False) (constant_agrees K.False false) or branch comparison_begins atom_of_term comparison_agrees
     or case (worded_begins K.Happens) happens_agrees or case (worded_begins K.HappensBefore) (dated_agrees K.HappensBefore P.Before) or case (worded_begins K.HappensAfter) (dated_agrees K.HappensAfter P.After)
     or case (worded_begins K.HappensWithin) happens_within_agrees or case (worded_begins K.Occurs) occurs_agrees or case (worded_begins K.Holds) holds_agrees
 
-atom_covers : (s : TokenKind) → atom_branches.Here s ⊎ (atom_by s ≡ fail)
+pub atom_covers : (s : TokenKind) → atom_branches.Here s ⊎ (atom_by s ≡ fail)
 atom_covers (S.Reserved K.True) = inl (inl (inl (inl (inl (inl (inl (inl (inl refl))))))))
 atom_covers (S.Reserved K.False) = inl (inl (inl (inl (inl (inl (inl (inl (inr refl))))))))
 atom_covers (S.Reserved K.Happens) = inl (inl (inl (inl (inl (inl (inr refl))))))
@@ -126,11 +126,11 @@ atom_covers (S.Reserved K.Occurs) = inl (inl (inr refl))
 atom_covers (S.Reserved K.Holds) = inl (inr refl)
 atom_covers s = inl (inl (inl (inl (inl (inl (inl (inr refl)))))))
 
-atom_agrees : Agrees atom atom_at (Ends 3)
+pub atom_agrees : Agrees atom atom_at (Ends 3)
 unfolding atom_at
 atom_agrees = by_next_agrees atom_branches atom_covers
 
-atom_begins : Begins atom OfAtom
+pub atom_begins : Begins atom OfAtom
 atom_begins =
     begins_or (begins_or (begins_or (begins_or (begins_or (begins_or (begins_or (begins_or
     (begins_as (worded_begins K.True) (refl, refl, refl)) (begins_as (worded_begins K.False) (refl, refl, refl))) (begins_so comparison_begins term_in_line))
@@ -147,27 +147,27 @@ module _ {R : Rule PropTree} {r : Reading PropTree} (deeper : Agrees R r (Ends 3
   prop_of_agrees : Agrees (prop_of R) (prop_of_at r) (Ends 5)
   prop_of_agrees = chain_agrees 4 5 K.Or P.Any (omega arith) (omega arith) (chain_agrees 3 4 K.And P.All (omega arith) (omega arith) deeper)
 
-  negation_agrees : Agrees (negation R) (negation_at r) (Ends 3)
+  pub negation_agrees : Agrees (negation R) (negation_at r) (Ends 3)
   negation_agrees = then_any begins_agrees λ first. then_any (keyword_agrees K.Not) λ _. node_agrees (λ part. P.Not part first) deeper
 
-  brackets_agree : Agrees (brackets R) (brackets_at r) Any
+  pub brackets_agree : Agrees (brackets R) (brackets_at r) Any
   brackets_agree = then_any (sign_agrees Open) λ place. node_agrees (in_brackets place) (before_agrees Close prop_of_agrees (ends_at 5 (S.Sign Close) (omega arith)))
 
-neg_of_atom : (deeper : Reading PropTree) (s : TokenKind) → OfAtom s → neg_by deeper s ≡ atom_at
+pub neg_of_atom : (deeper : Reading PropTree) (s : TokenKind) → OfAtom s → neg_by deeper s ≡ atom_at
 neg_of_atom deeper (S.Reserved K.Not) of = let e = of.1 in absurd cc
 neg_of_atom deeper (S.Sign Sg.Open) of = let e = of.2 in absurd cc
 neg_of_atom deeper s of = refl
 
 module _ {R : Rule PropTree} {r : Reading PropTree} (deeper : Agrees R r (Ends 3)) where
-  abbrev neg_branches : Branches (grammar.◌or◌ (grammar.◌or◌ (negation R) (brackets R)) atom) (neg_by r) (Ends 3)
+  abbrev pub neg_branches : Branches (grammar.◌or◌ (grammar.◌or◌ (negation R) (brackets R)) atom) (neg_by r) (Ends 3)
   neg_branches = case_at (worded_begins K.Not) (negation_agrees deeper) or case (begins_then (sign_begins Open)) (brackets_agree deeper) or branch atom_begins (neg_of_atom r) atom_agrees
 
-  neg_covers : (s : TokenKind) → neg_branches.Here s ⊎ (neg_by r s ≡ fail)
+  pub neg_covers : (s : TokenKind) → neg_branches.Here s ⊎ (neg_by r s ≡ fail)
   neg_covers (S.Reserved K.Not) = inl (inl (inl refl))
   neg_covers (S.Sign Sg.Open) = inl (inl (inr refl))
   neg_covers s = inl (inr refl)
 
-neg_agrees : (levels : ℕ) → Agrees (neg levels) (neg_at levels) (Ends 3)
+pub neg_agrees : (levels : ℕ) → Agrees (neg levels) (neg_at levels) (Ends 3)
 unfolding neg neg_at
 neg_agrees zero = atom_agrees
 neg_agrees (suc levels) = by_next_agrees (neg_branches (neg_agrees levels)) (neg_covers (neg_agrees levels))

@@ -82,15 +82,15 @@ path_agrees = record { sound = sounds; complete = completes; within = withins }
 pub path_begins : Begins path (Is S.Word)
 path_begins = begins_or (begins_or (begins_then (token_begins S.Word)) (begins_then (token_begins S.Word))) (begins_then (token_begins S.Word))
 
-negative_agrees : Agrees (grammar.◌>>=◌ (sign Minus) λ place. grammar.◌>>=◌ (token S.Number) λ number. spelled (Single.Negative place number)) negative_at Any
+pub negative_agrees : Agrees (grammar.◌>>=◌ (sign Minus) λ place. grammar.◌>>=◌ (token S.Number) λ number. spelled (Single.Negative place number)) negative_at Any
 negative_agrees = then_any (sign_agrees Minus) λ place. token_case S.Number (Single.Negative place)
 
-abbrev single_branches : Branches single single_by (Ends 1)
+abbrev pub single_branches : Branches single single_by (Ends 1)
 single_branches =
     case (begins_then (token_begins S.Number)) (token_case S.Number Single.Number) or case (begins_then (sign_begins Minus)) negative_agrees or case (begins_then (token_begins S.Str)) (token_case S.Str Single.Str)
     or case (begins_then (token_begins S.Date)) (token_case S.Date Single.Date) or branch (begins_then path_begins) (λ s e. rw e refl) (node_agrees Single.Path path_agrees)
 
-single_covers : (s : TokenKind) → single_branches.Here s ⊎ (single_by s ≡ fail)
+pub single_covers : (s : TokenKind) → single_branches.Here s ⊎ (single_by s ≡ fail)
 single_covers S.Number = inl (inl (inl (inl (inl refl))))
 single_covers (S.Sign Sg.Minus) = inl (inl (inl (inl (inr refl))))
 single_covers S.Str = inl (inl (inl (inr refl)))
@@ -105,10 +105,10 @@ pub factor_agrees : Agrees factor factor_at (Ends 2)
 unfolding factor_at
 factor_agrees = first_and_many (λ first others. record { first = first; others = others }) single_agrees (loop_behind 1 2 Times (omega arith) (omega arith) single_agrees)
 
-abbrev sum_branches : Branches sum sum_by (Ends 2)
+abbrev pub sum_branches : Branches sum sum_by (Ends 2)
 sum_branches = case_at (begins_then (begins_then (sign_begins Plus))) (node_agrees Sum.Plus (behind_agrees Plus factor_agrees)) or case_at (begins_then (begins_then (sign_begins Minus))) (node_agrees Sum.Minus (behind_agrees Minus factor_agrees))
 
-sum_covers : (s : TokenKind) → sum_branches.Here s ⊎ (sum_by s ≡ fail)
+pub sum_covers : (s : TokenKind) → sum_branches.Here s ⊎ (sum_by s ≡ fail)
 sum_covers (S.Sign Sg.Plus) = inl (inl refl)
 sum_covers s = inl (inr refl)
 
@@ -153,18 +153,18 @@ term_begins = begins_then (begins_then
     (begins_as (begins_then (token_begins S.Date)) date))
     (begins_as (begins_then path_begins) name)))
 
-rhs_of_term : (s : TokenKind) → BeginsTerm s → rhs_by s ≡ (term_at >>= λ x. give (Rhs.Term x))
+pub rhs_of_term : (s : TokenKind) → BeginsTerm s → rhs_by s ≡ (term_at >>= λ x. give (Rhs.Term x))
 rhs_of_term s number = refl
 rhs_of_term s minus = refl
 rhs_of_term s str = refl
 rhs_of_term s date = refl
 rhs_of_term s name = refl
 
-abbrev rhs_branches : Branches rhs rhs_by (Ends 3)
+abbrev pub rhs_branches : Branches rhs rhs_by (Ends 3)
 rhs_branches = branch (begins_then term_begins) rhs_of_term (node_agrees Rhs.Term term_agrees) or case (begins_then (keyword_begins K.True)) (node_agrees (Rhs.Const true) (keyword_agrees K.True))
     or case (begins_then (keyword_begins K.False)) (node_agrees (Rhs.Const false) (keyword_agrees K.False))
 
-rhs_covers : (s : TokenKind) → rhs_branches.Here s ⊎ (rhs_by s ≡ fail)
+pub rhs_covers : (s : TokenKind) → rhs_branches.Here s ⊎ (rhs_by s ≡ fail)
 rhs_covers (S.Reserved K.True) = inl (inl (inr refl))
 rhs_covers (S.Reserved K.False) = inl (inr refl)
 rhs_covers s = inl (inl (inl refl))
