@@ -1,5 +1,6 @@
 pub mod Answering
 pub mod Following
+pub mod OneOutcome
 pub mod OneOutput
 pub mod Outputs
 pub mod Planned

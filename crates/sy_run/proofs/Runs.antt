@@ -1,5 +1,5 @@
 -- A run of a command, from what its parts do.
-use Rattle.std.proofs.Common.{◌≡◌, ℕ, inl, inr, List, [], ◌++◌, refl, sym, subst, ◌∙◌, Some, Ok, Err, Result}
+use Rattle.std.proofs.Common.{◌≡◌, ℕ, inl, inr, List, [], ◌++◌, refl, sym, subst, ◌∙◌, Some, Ok, Err, Result, arith}
 use Rattle.std.proofs.lemmas.List.{append_cancel_right}
 use Rattle.std.specs.Prelude.{MatchBool}
 use Rattle.std.specs.declared.option.Option.{Option}
@@ -12,9 +12,10 @@ use Rattle.sy_run.specs.Commands.{Command, Compile, Monitor, Unknown}
 use Rattle.sy_run.specs.Machine.Stopping.{IsToldAs, is_read_stop}
 use Rattle.sy_run.specs.Machine.Stream.{HowStopped, refused, half_refused, not_refused, not_read, no_memory, IsReadingStatus, IsUsageStatus, IsWritingStatus, StopsWith, StreamCaused, StreamEnds, WriteCaused, WroteAllRead}
 use Rattle.sy_run.specs.Outcomes.{End, Finished, Stopped, Missing, Misused, GivesDeed, IsAskedFor, IsOutcome, Outcome, compiled, stopped, usage}
-use Rattle.sy_run.specs.Run.{Caused, Completes, Ends, EndsAs, IsRun, IsStatusFor, IsStatusOf, KnowsFor}
+use Rattle.sy_run.specs.Run.{Caused, Ends, IsRun, IsStatusFor, IsStatusOf, KnowsFor}
 use Rattle.sy_run.specs.Texts.{IsDeedIn, IsSoundSpecIn}
 use Rattle.sy_run.specs.World.{World, InputStays, NoneFailed, ReadsSteady}
+use Rattle.sy_run.proofs.OneOutcome.{asks_nothing, knows_of, one_asked, one_outcome}
 use Rattle.sy_run.specs.declared.stop.Stop.{Stop}
 use Rattle.sy_run.specs.declared.stop.Stop.TheVariants as stop
 use Rattle.sy_run.specs.declared.status.Status.{Status}
@@ -38,19 +39,9 @@ module _ (command : Command) (before after : World) where
   completed outcome Found ends cause none = absurd ends
   completed outcome Undecided ends cause none = absurd ends
 
-  cut_short : (status : Status) → Caused command before after status → NoneFailed before after → (cut : EndsAs command before after status) → Completes command before status
-  cut_short status cause none (inl e) = inl (e.0, e.1, completed e.0 status e.2 cause none)
-  cut_short Memory cause none (inr e) = inr refl
-  cut_short ReadFault cause none (inr e) = absurd (elim cause.0 [ inl rose ↦ none.files rose | inr rose ↦ none.input rose.1 ])
-  cut_short Done cause none (inr e) = absurd e.0
-  cut_short Refused cause none (inr e) = absurd e.0
-  cut_short Usage cause none (inr e) = absurd e.0
-  cut_short WriteFault cause none (inr e) = absurd e.0
-  cut_short Found cause none (inr e) = absurd e.0
-  cut_short Undecided cause none (inr e) = absurd e.0
-
-  pub completes : (status : Status) → (KnowsFor command before → EndsAs command before after status) → Caused command before after status → KnowsFor command before → NoneFailed before after → Completes command before status
-  completes status ends cause knows none = cut_short status cause none (ends knows)
+  pub completes : (status : Status) → ((outcome : Outcome) → IsOutcome command before outcome → Ends before.held after.held outcome status) → Caused command before after status
+      → (outcome : Outcome) → IsOutcome command before outcome → NoneFailed before after → IsStatusOf outcome.end status
+  completes status ends cause outcome is none = completed outcome status (ends outcome is) cause none
 
 -- a read failed only where the status says so
 differ : (status : Status) (is : Status → Type 0) → is status → status ≡ ReadFault → (is ReadFault → ⊥) → ⊥
@@ -85,10 +76,12 @@ pub compiled_run : (spec : List ℕ) (before after : World) (tree : SpecTree) (s
     → after.file_faults ≡ before.file_faults → InputStays before after → IsRun (Compile spec) before after status
 compiled_run spec before after tree status given ends is wrote files stays =
     let cause : Caused (Compile spec) before after status = written_caused (Compile spec) before after status is wrote (record { files = files; input = stays.faults }) in
-    let outcome : KnowsFor (Compile spec) before → EndsAs (Compile spec) before after status =
-    λ knows. inl (compiled (Ok tree), (Ok tree, (knows.0, knows.1, given knows.0 knows.1), refl), ends) in record {
+    let outcome : (outcome : Outcome) → IsOutcome (Compile spec) before outcome → Ends before.held after.held outcome status =
+    λ outcome is.
+    let same = one_outcome (Compile spec) before (compiled (Ok tree)) outcome (Ok tree, (is.1.0, is.1.1, given is.1.0 is.1.1), refl) is in
+    subst (λ (o : Outcome). Ends before.held after.held o status) same ends in record {
       outcome = outcome;
-      answered = λ knows failed taken rest was now. absurd (differ status IsWritingStatus is failed (λ w. w));
+      answered = λ failed taken rest text was now asked. absurd (differ status IsWritingStatus is failed (λ w. w));
       complete = completes (Compile spec) before after status outcome cause;
       cause = cause;
       input = λ leaves. stays;
@@ -121,9 +114,10 @@ pub usage_run : (before after : World) (status : Status) → Ends before.held af
     → after.file_faults ≡ before.file_faults → InputStays before after → IsRun Unknown before after status
 usage_run before after status ends is wrote files stays =
     let cause : Caused Unknown before after status = usage_caused before after status is wrote (record { files = files; input = stays.faults }) in
-    let outcome : KnowsFor Unknown before → EndsAs Unknown before after status = λ knows. inl (usage, refl, ends) in record {
+    let outcome : (outcome : Outcome) → IsOutcome Unknown before outcome → Ends before.held after.held outcome status =
+    λ outcome is. subst (λ (o : Outcome). Ends before.held after.held o status) (sym is) ends in record {
       outcome = outcome;
-      answered = λ knows failed taken rest was now. absurd (differ status IsUsageStatus is failed (λ w. w));
+      answered = λ failed taken rest text was now asked. absurd (differ status IsUsageStatus is failed (λ w. w));
       complete = completes Unknown before after status outcome cause;
       cause = cause;
       input = λ leaves. stays;
@@ -168,16 +162,21 @@ taken_none taken rest before after was now stays =
 -- what files that stop a run mean for a command
 pub record StopsBy (command : Command) (before : World) (why : Stop) : Type 0 where
   pub outcome : (refusal : Refusal) → why ≡ stop.Refused refusal → KnowsFor command before → IsOutcome command before (stopped (stop.Refused refusal))
-  pub asked : IsAskedFor command before [] []
+  pub asked : (text : List ℕ) → IsAskedFor command before [] text → text ≡ []
   pub reads : (status : Status) → IsReadingStatus status → IsStatusFor command status
 
 module _ (command : Command) (before after : World) (stays : InputStays before after) where
-  stopped_ends : (why : Stop) (status : Status) → StopsBy command before why → HowStopped before.held after.held why status → KnowsFor command before → EndsAs command before after status
-  stopped_ends why status by (refused r p) knows = inl (stopped (stop.Refused r), by.outcome r refl knows, (p, refl))
-  stopped_ends why status by (half_refused r p) knows = inl (stopped (stop.Refused r), by.outcome r refl knows, p)
-  stopped_ends why status by (not_refused r p) knows = inr (tt, p)
-  stopped_ends why status by (not_read p) knows = inr (tt, p)
-  stopped_ends why status by (no_memory p) knows = inr (tt, p)
+  stopped_ends : (why : Stop) (status : Status) → StopsBy command before why → HowStopped before.held after.held why status
+      → (outcome : Outcome) → IsOutcome command before outcome → Ends before.held after.held outcome status
+  stopped_ends why status by (refused r p) outcome is =
+      let same = one_outcome command before (stopped (stop.Refused r)) outcome (by.outcome r refl (knows_of command before outcome is)) is in
+      subst (λ (o : Outcome). Ends before.held after.held o Refused) same (p, refl)
+  stopped_ends why status by (half_refused r p) outcome is =
+      let same = one_outcome command before (stopped (stop.Refused r)) outcome (by.outcome r refl (knows_of command before outcome is)) is in
+      subst (λ (o : Outcome). Ends before.held after.held o WriteFault) same p
+  stopped_ends why status by (not_refused r p) outcome is = (0, omega arith, p)
+  stopped_ends why status by (not_read p) outcome is = (0, omega arith, p)
+  stopped_ends why status by (no_memory p) outcome is = (0, omega arith, p)
 
   stopped_caused : (why : Stop) (status : Status) → HowStopped before.held after.held why status → MatchBool (is_read_stop why) (RoseSince before.file_faults after.file_faults) (after.file_faults ≡ before.file_faults)
       → WriteCaused before.output_faults after.output_faults status → Caused command before after status
@@ -208,10 +207,12 @@ module _ (command : Command) (before after : World) (stays : InputStays before a
   stopped_run why status by stops read wrote =
       let how = how_stopped before.held after.held why status stops in
       let cause : Caused command before after status = stopped_caused why status how read wrote in
-      let outcome : KnowsFor command before → EndsAs command before after status = stopped_ends why status by how in record {
+      let outcome : (outcome : Outcome) → IsOutcome command before outcome → Ends before.held after.held outcome status = stopped_ends why status by how in record {
         outcome = outcome;
-        answered = λ knows failed taken rest was now.
-            ([], subst (λ t. IsAskedFor command before t []) (sym (taken_none taken rest before.left after.left was now stays.left)) by.asked, wrote_nothing why status how failed);
+        answered = λ failed taken rest text was now asked.
+            let none = taken_none taken rest before.left after.left was now stays.left in
+            let nothing = by.asked text (subst (λ (t : List ℕ). IsAskedFor command before t text) none asked) in
+            subst (λ (t : List ℕ). Appends before.held after.held t) (sym nothing) (wrote_nothing why status how failed);
         complete = completes command before after status outcome cause;
         cause = cause;
         input = λ leaves. stays;
@@ -245,7 +246,7 @@ reading_monitor spec bind Undecided is = absurd is
 pub compile_stops : (spec : List ℕ) (before : World) (why : Stop) → ((text : Option (List ℕ)) → before.file spec ≡ Some text → IsToldAs (IsSoundSpecIn text) (Err why)) → StopsBy (Compile spec) before why
 compile_stops spec before why given = record {
   outcome = λ refusal is knows. (Err (stop.Refused refusal), (knows.0, knows.1, given_refusal (IsSoundSpecIn knows.0) why refusal is (given knows.0 knows.1)), refl);
-  asked = refl;
+  asked = λ text asked. asked;
   reads = reading_compile spec;
 }
 
@@ -257,7 +258,7 @@ monitor_stops spec bind before why given = record {
     (knows.0.0, knows.1.0, knows.0.1, knows.1.1, given_refusal (IsDeedIn knows.0.0 knows.1.0) why refusal is (given knows.0.0 knows.1.0 knows.0.1 knows.1.1)),
     (knows.2.0, knows.2.1, refl),
   );
-  asked = inr (refl, refl);
+  asked = asks_nothing spec bind before;
   reads = reading_monitor spec bind;
 }
 
@@ -282,14 +283,17 @@ followed_run spec bind before after deed status given ends is files wrote =
     let cause : Caused (Monitor spec bind) before after status = followed_caused spec bind before after status is files wrote in
     let gives : (s b : Option (List ℕ)) → before.file spec ≡ Some s → before.file bind ≡ Some b → GivesDeed before spec bind (Ok deed) =
     λ s b ks kb. (s, b, ks, kb, given s b ks kb) in
-    let outcome : KnowsFor (Monitor spec bind) before → EndsAs (Monitor spec bind) before after status =
-    λ knows.
+    let outcome : (outcome : Outcome) → IsOutcome (Monitor spec bind) before outcome → Ends before.held after.held outcome status =
+    λ outcome is.
+    let knows = knows_of (Monitor spec bind) before outcome is in
     let e = (ends knows.2.0 knows.2.1).ends in
-    inl (e.0, (Ok deed, gives knows.0.0 knows.1.0 knows.0.1 knows.1.1, (knows.2.0, knows.2.1, e.1)), e.2) in record {
+    let there : IsOutcome (Monitor spec bind) before e.0 = (Ok deed, gives knows.0.0 knows.1.0 knows.0.1 knows.1.1, (knows.2.0, knows.2.1, e.1)) in
+    subst (λ (o : Outcome). Ends before.held after.held o status) (one_outcome (Monitor spec bind) before e.0 outcome there is) e.2 in record {
       outcome = outcome;
-      answered = λ knows failed taken rest was now.
+      answered = λ failed taken rest text was now asked.
           let all = subst (WroteAllRead before.held after.held (Ok deed) taken) failed ((ends (taken ++ rest) was).all_read taken rest now refl) in
-          (all.0, inl (Ok deed, gives knows.0.0 knows.1.0 knows.0.1 knows.1.1, all.1), all.2);
+          let there : IsAskedFor (Monitor spec bind) before taken all.0 = (Ok deed, gives asked.1.0 asked.1.1 asked.1.2 asked.1.3, all.1) in
+          subst (λ (t : List ℕ). Appends before.held after.held t) (one_asked spec bind before taken all.0 text there asked) all.2;
       complete = completes (Monitor spec bind) before after status outcome cause;
       cause = cause;
       input = λ leaves. absurd (leaves.2 deed (gives leaves.0.0 leaves.1.0 leaves.0.1 leaves.1.1));

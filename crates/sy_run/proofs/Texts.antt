@@ -6,12 +6,10 @@ use Rattle.sy_base.specs.declared.refusal.Refused.{Refused}
 use Rattle.sy_base.specs.declared.refusal.Refused.TheVariants as R
 use Rattle.sy_core.specs.declared.deed.Deed.{Deed}
 use Rattle.sy_lex.specs.declared.token.Token.{Token}
-use Rattle.sy_lex.specs.Tokens as lex
 use Rattle.sy_lex.specs.Tokens.{HasText, IsLexFault}
 use Rattle.sy_spec.specs.declared.contract.SpecTree.{SpecTree}
 use Rattle.sy_binding.specs.declared.tree.BindTree.{BindTree}
-use Rattle.sy_lex.specs.Lexemes.{Lexeme, lexemes_of}
-use Rattle.sy_reader.specs.Faults as faults
+use Rattle.sy_lex.specs.Lexemes.{Lexeme}
 use Rattle.sy_reader.specs.Faults.{IsSyntaxFault}
 use Rattle.sy_run.specs.Machine.Stopping.{IsToldAs, stop_of}
 use Rattle.sy_run.specs.Texts.{IsTree, no_tokens, no_tree, IsSoundSpecIn, IsBindingIn, IsDeedIn, bound}
@@ -20,16 +18,14 @@ use Rattle.sy_run.specs.declared.stop.Stop.TheVariants as stop
 
 module _ {A : Type 0} (file : FileKind) (spells : A → List Lexeme → Type 0) (bytes : List ℕ) where
   -- no tokens
-  pub not_cut : (why : Refused) → ((tokens : List Token) → HasText tokens bytes → lex.IsReadAs (Err why) tokens) → IsLexFault file bytes why
-      → IsToldAs (IsTree file spells bytes) (Err (stop_of why))
-  not_cut R.Memory only fault = tt
-  not_cut (R.Refusal refusal) only fault = no_tokens bytes refusal only fault
+  pub not_cut : (why : Refused) → IsLexFault file bytes why → IsToldAs (IsTree file spells bytes) (Err (stop_of why))
+  not_cut R.Memory fault = tt
+  not_cut (R.Refusal refusal) fault = no_tokens bytes refusal fault
 
   -- no tree
-  pub not_spelled : (tokens : List Token) → HasText tokens bytes → (why : Refused) → ((tree : A) → spells tree (lexemes_of bytes tokens) → faults.IsReadAs {A = A} (Err why) tree)
-      → IsSyntaxFault file spells bytes tokens why → IsToldAs (IsTree file spells bytes) (Err (stop_of why))
-  not_spelled tokens has R.Memory only fault = tt
-  not_spelled tokens has (R.Refusal refusal) only fault = no_tree bytes tokens refusal has only fault
+  pub not_spelled : (tokens : List Token) → HasText tokens bytes → (why : Refused) → IsSyntaxFault file spells bytes tokens why → IsToldAs (IsTree file spells bytes) (Err (stop_of why))
+  not_spelled tokens has R.Memory fault = tt
+  not_spelled tokens has (R.Refusal refusal) fault = no_tree bytes tokens refusal has fault
 
 -- what one call was told, another is told too
 pub told_too : {A B : Type 0} (IsGiven : Result A Stop → Type 0) (IsThen : Result B Stop → Type 0) → ((why : Stop) → IsGiven (Err why) → IsThen (Err why))

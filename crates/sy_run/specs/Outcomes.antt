@@ -1,5 +1,5 @@
 -- The outcome of a command in a world: the text that it writes, and how it ends.
-use Rattle.std.specs.Prelude.{◌≡◌, ◌⊎◌, ℕ, Bool, true, false, List, [], ◌++◌, Option, Some, Result, Ok, Err}
+use Rattle.std.specs.Prelude.{◌≡◌, ℕ, Bool, true, false, List, [], ◌++◌, Option, Some, Result, Ok, Err}
 use Rattle.sy_outside.specs.Lines.{lines_of, whole_lines_of}
 use Rattle.sy_core.specs.declared.deed.Deed.{Deed}
 use Rattle.sy_print.specs.CanonicalText.{canonical_text}
@@ -77,6 +77,5 @@ IsAskedByLines (Err why) taken text = text ≡ []
 
 -- all that the bytes ask for that a command has taken from the input
 abbrev pub IsAskedFor : Command → World → List ℕ → List ℕ → Type 0
-IsAskedFor (Monitor spec bind) world taken text =
-    ((deed : Result Deed Stop) × GivesDeed world spec bind deed × IsAskedByLines deed taken text) ⊎ ((taken ≡ []) × (text ≡ []))
+IsAskedFor (Monitor spec bind) world taken text = (deed : Result Deed Stop) × GivesDeed world spec bind deed × IsAskedByLines deed taken text
 IsAskedFor command world taken text = text ≡ []

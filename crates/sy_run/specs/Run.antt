@@ -1,5 +1,5 @@
--- What a run of the program does. A command has an outcome in the world before it; what the run writes and the status that
--- it returns are that outcome's, unless a call outside fails or memory is wanting.
+-- What a run of the program does. Where the bytes are known of all that a command reads, it has one outcome in the world before it. What
+-- the run writes and the status that it returns are that outcome's, unless a call outside fails or memory is wanting.
 use Rattle.std.specs.Prelude.{◌≡◌, ◌⊎◌, ℕ, List, [], ◌++◌, Option, Some, Ok, ⊤}
 use Rattle.std.specs.Io.KnownBytes.{Appends}
 use Rattle.sy_outside.specs.Writing.{AppendsPrefix, AppendsProperPrefix}
@@ -31,28 +31,12 @@ Ends old new outcome Memory = AppendsPrefix old new outcome.text
 Ends old new outcome Found = ⊥
 Ends old new outcome Undecided = ⊥
 
--- a run was cut short as it read its files
-abbrev pub IsCutShort : Status → Type 0
-IsCutShort ReadFault = ⊤
-IsCutShort Memory = ⊤
-IsCutShort status = ⊥
-
--- a run ends as one of its outcomes says, or was cut short before anything was written
-abbrev pub EndsAs : Command → World → World → Status → Type 0
-EndsAs command before after status =
-    ((outcome : Outcome) × IsOutcome command before outcome × Ends before.held after.held outcome status)
-    ⊎ (IsCutShort status × Appends before.held after.held [])
-
 -- the status of an end, or want of memory; a missing file is a failed read
 abbrev pub IsStatusOf : End → Status → Type 0
 IsStatusOf Finished status = (status ≡ Done) ⊎ (status ≡ Memory)
 IsStatusOf Stopped status = (status ≡ Refused) ⊎ (status ≡ Memory)
 IsStatusOf Misused status = (status ≡ Usage) ⊎ (status ≡ Memory)
 IsStatusOf Missing status = ⊤
-
-abbrev pub Completes : Command → World → Status → Type 0
-Completes command before status =
-    ((outcome : Outcome) × IsOutcome command before outcome × IsStatusOf outcome.end status) ⊎ (status ≡ Memory)
 
 -- a fault comes only where a call failed that the command makes, and with every other status no call failed
 abbrev pub Caused : Command → World → World → Status → Type 0
@@ -80,12 +64,12 @@ IsStatusFor command status = ⊤
 -- a run of a command, from the world before to the world after it
 pub record IsRun (command : Command) (before after : World) (status : Status) : Type 0 where
   -- what was written and the status are the outcome's
-  pub outcome : KnowsFor command before → EndsAs command before after status
+  pub outcome : (outcome : Outcome) → IsOutcome command before outcome → Ends before.held after.held outcome status
   -- where a read failed, all that was asked for up to there was written
-  pub answered : KnowsFor command before → status ≡ ReadFault → (taken rest : List ℕ) → before.left ≡ Some (taken ++ rest) → after.left ≡ Some rest
-      → (text : List ℕ) × IsAskedFor command before taken text × Appends before.held after.held text
+  pub answered : status ≡ ReadFault → (taken rest text : List ℕ) → before.left ≡ Some (taken ++ rest) → after.left ≡ Some rest
+      → IsAskedFor command before taken text → Appends before.held after.held text
   -- where no call failed, the status is the outcome's, or memory was wanting
-  pub complete : KnowsFor command before → NoneFailed before after → Completes command before status
+  pub complete : (outcome : Outcome) → IsOutcome command before outcome → NoneFailed before after → IsStatusOf outcome.end status
   -- a fault has its cause, and none is passed over
   pub cause : Caused command before after status
   -- an input that isn't needed isn't read

@@ -29,10 +29,8 @@ bytes_in file (Some bytes) =
 -- the bytes give this tree, by the rule for it, or this refusal: LexFault where they have no list of tokens, and
 -- SyntaxFault where their tokens spell no tree
 pub data IsTree {A : Type 0} (file : FileKind) (spells : A → List Lexeme → Type 0) : List ℕ → Result A Stop → Type 0 where
-  no_tokens : (bytes : List ℕ) (refusal : Refusal) → ((tokens : List Token) → HasText tokens bytes → ⊥)
-      → IsLexFault file bytes (R.Refusal refusal) → IsTree file spells bytes (Err (stop.Refused refusal))
+  no_tokens : (bytes : List ℕ) (refusal : Refusal) → IsLexFault file bytes (R.Refusal refusal) → IsTree file spells bytes (Err (stop.Refused refusal))
   no_tree : (bytes : List ℕ) (tokens : List Token) (refusal : Refusal) → HasText tokens bytes
-      → ((tree : A) → spells tree (lexemes_of bytes tokens) → ⊥)
       → IsSyntaxFault file spells bytes tokens (R.Refusal refusal) → IsTree file spells bytes (Err (stop.Refused refusal))
   one_tree : (bytes : List ℕ) (tokens : List Token) (tree : A) → HasText tokens bytes
       → spells tree (lexemes_of bytes tokens) → IsTree file spells bytes (Ok tree)

@@ -12,6 +12,6 @@ mod stop;
 mod stream;
 mod top;
 
-pub use output_law::logs_have_one_output;
+pub use output_law::{commands_have_one_outcome, logs_have_one_output};
 pub use status::Status;
 pub use top::run;

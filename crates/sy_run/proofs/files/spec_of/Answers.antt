@@ -11,13 +11,13 @@ use Rattle.sy_run.proofs.files.spec_of.Goals as goal
 pub returns-in_err-tokens-clause-told : goal.returns-in_err-tokens-clause-told
 returns-in_err-tokens-clause-told c =
     let p = err_from_is_err_and c.from_residual.result c.from_residual.ensures.1 in
-    rw (p.1, p.2) (not_cut Spec SpellsSpec c.args.bytes.now c.in_err-tokens.field-0.0 c.in_err-tokens.ensures.only c.in_err-tokens.ensures.refusal)
+    rw (p.1, p.2) (not_cut Spec SpellsSpec c.args.bytes.now c.in_err-tokens.field-0.0 c.in_err-tokens.ensures.refusal)
 
 pub returns-in_err-spec-clause-told : goal.returns-in_err-spec-clause-told
 returns-in_err-spec-clause-told c =
     let p = err_from_is_err_and c.from_residual-in_err-spec.result c.from_residual-in_err-spec.ensures.1 in
     let has = subst (λ (ts : List Token). HasText ts c.args.bytes.now) (sym c.items.ensures) c.in_ok-tokens.ensures.found in
-    rw (p.1, p.2) (not_spelled Spec SpellsSpec c.args.bytes.now c.items.result.now has c.in_err-spec.field-0.0 c.in_err-spec.ensures.only c.in_err-spec.ensures.refusal)
+    rw (p.1, p.2) (not_spelled Spec SpellsSpec c.args.bytes.now c.items.result.now has c.in_err-spec.field-0.0 c.in_err-spec.ensures.refusal)
 
 pub returns-clause-told : goal.returns-clause-told
 returns-clause-told c =
