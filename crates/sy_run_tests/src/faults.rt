@@ -58,19 +58,23 @@ fn a_failed_write_ends_the_run(rt: HostRuntime) -> Result<(), Fail> {
 
 #[test]
 fn what_was_reported_before_a_failed_write_stays(rt: HostRuntime) -> Result<(), Fail> {
-    let case = Case {
-        words: &[b"monitor", b"SPEC", b"BIND"],
-        spec: m(),
-        bind: m_bind(),
-        input: b"report 2024-02-29\nreport 2024-03-01\nreport 2024-03-02\n",
-        most: 100_000,
-        failing_read_of_file: 0,
-        failing_read: 0,
-        failing_write: 2,
-    };
-    let ran = outcome(rt.alloc(), &case)?;
-    assert_eq!(rt; ran.status, Status::WriteFault);
-    assert_eq!(rt; ran.out.bytes(), FORM.as_bytes());
+    let mut written = Vec::new(rt.alloc());
+    for call in 1..=3 {
+        let case = Case {
+            words: &[b"monitor", b"SPEC", b"BIND"],
+            spec: m(),
+            bind: m_bind(),
+            input: LOG,
+            most: 100_000,
+            failing_read_of_file: 0,
+            failing_read: 0,
+            failing_write: call,
+        };
+        let ran = outcome(rt.alloc(), &case)?;
+        assert_eq!(rt; ran.status, Status::WriteFault);
+        assert_eq!(rt; ran.out.bytes(), written.as_slice());
+        written.extend_from_slice(FORM.as_bytes())?;
+    }
     Ok(())
 }
 

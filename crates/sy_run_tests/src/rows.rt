@@ -80,6 +80,27 @@ fn the_order_is_written_behind_the_text(rt: HostRuntime) -> Result<(), Fail> {
 }
 
 #[test]
+fn a_text_is_refused_where_it_goes_wrong(rt: HostRuntime) -> Result<(), Fail> {
+    let word = vec![in rt.alloc(); b'a'; 65]?;
+    let table: [(&[u8], &[u8]); 8] = [
+        (b"", b"refused spec 1:1 SyntaxFault\n"),
+        (b"Domain", b"refused spec 1:7 SyntaxFault\n"),
+        (b"Domain 9", b"refused spec 1:8 SyntaxFault 9\n"),
+        (b"Domain s #", b"refused spec 1:10 LexFault\n"),
+        (b"\"ab", b"refused spec 1:4 LexFault\n"),
+        (b"! =", b"refused spec 1:2 LexFault\n"),
+        (b"Domain s\n/", b"refused spec 2:2 LexFault\n"),
+        (&word, b"refused spec 1:65 LexFault\n"),
+    ];
+    for (spec, told) in table {
+        let ran = compiled(rt.alloc(), spec)?;
+        assert_eq!(rt; ran.status, Status::Refused);
+        assert_eq!(rt; ran.out.bytes(), told);
+    }
+    Ok(())
+}
+
+#[test]
 fn a_cycle_is_refused(rt: HostRuntime) -> Result<(), Fail> {
     let crossed = compiled(rt.alloc(), t())?;
     assert_eq!(rt; crossed.status, Status::Refused);
