@@ -1,0 +1,2 @@
+pub mod SameEvents
+pub mod OnePass
