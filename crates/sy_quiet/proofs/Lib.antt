@@ -1,0 +1,10 @@
+pub mod Falling
+pub mod Unseen
+pub mod QuietVerdicts
+pub mod QuietPoints
+pub mod OtherEvents
+pub mod States
+pub mod WakeLaw
+pub mod NextWake
+pub mod Told
+pub mod PointLaw
