@@ -4,6 +4,8 @@
 #[cfg(test)]
 mod dates;
 #[cfg(test)]
+mod deadlines;
+#[cfg(test)]
 mod happenings;
 #[cfg(test)]
 mod known;
