@@ -1,3 +1,4 @@
 pub mod Ascending
 pub mod Kept
+pub mod Members
 pub mod Splitting
