@@ -1,0 +1,5 @@
+pub mod Passing
+pub mod Dates
+pub mod Keeping
+pub mod AtomLaws
+pub mod Leading

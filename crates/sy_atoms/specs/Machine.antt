@@ -1,0 +1,5 @@
+pub mod Windows
+pub mod Kept
+pub mod Told
+pub mod Atoms
+pub mod Steps
