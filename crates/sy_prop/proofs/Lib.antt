@@ -1,0 +1,4 @@
+pub mod Walking
+pub mod Values
+pub mod Changing
+pub mod Sound

@@ -1,0 +1,10 @@
+//! The propositions of a deed in one flat table, so that each verdict and date is at hand at each
+//! point. The table keeps bits, dates and states alone; events and date terms are the deed's.
+#![tactic(auto)]
+
+mod node;
+mod table;
+mod telling;
+mod walk;
+
+use node::Node;
