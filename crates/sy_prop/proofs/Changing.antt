@@ -100,6 +100,12 @@ module _ {X : Type 0} (each : X → List Change) where
       let ahead : drop i items ≡ x ∷ drop (i + 1) items = rw add-one (drop-cons items i x lt ∙ ap (λ y. y ∷ drop (suc i) items) (sym is)) in
       ap (flat_map each) ahead
 
+  -- there is room for an item
+  pub item_room : (items : List X) (i : ℕ) (x : X) (next : ℕ) (ns : List Node) → i < length items → x ≡ get_or items i x → next + length (left items i) ≤ length ns → next + length (each x) ≤ length ns
+  item_room items i x next ns lt is room =
+      let size = ap length (one_left items i x lt is) ∙ length-append (each x) (left items (i + 1)) in
+      omega (arith, room, size)
+
   -- one item more
   pub item_goes : (items : List X) (i : ℕ) (x : X) (next next' count : ℕ) (ns ns' whole : List Node) → i < length items → x ≡ get_or items i x → next + length (left items i) ≤ length ns → next + length (left items i) ≡ count → changed_from next (left items i) ns ≡ whole → next' ≡ next + length (each x) → ns' ≡ changed_from next (each x) ns → (next' + length (left items (i + 1)) ≤ length ns') × (next' + length (left items (i + 1)) ≡ count) × (changed_from next' (left items (i + 1)) ns' ≡ whole)
   item_goes items i x next next' count ns ns' whole lt is room counted rest n b =
@@ -165,3 +171,14 @@ module _ (step : Step) where
   parts_end items i at next ns old q le e counted rest =
       let done = items_end part_changes items i next (at + suc (length (flat_map part_changes items))) ns (changed_from at (stay ∷ flat_map part_changes items) old) le counted rest in
       (done.0 ∙ ap (λ l. at + length l) (sym e), done.1 ∙ ap (λ l. changed_from at l old) (sym e))
+
+-- what is done to three lists of nodes one after the other
+pub three_changed : (at n1 n2 : ℕ) (fs gs hs : List Change) (ns ns1 ns2 ns3 : List Node) → at + length (fs ++ (gs ++ hs)) ≤ length ns → n1 ≡ at + length fs → ns1 ≡ changed_from at fs ns → n2 ≡ n1 + length gs → ns2 ≡ changed_from n1 gs ns1 → ns3 ≡ changed_from n2 hs ns2 → ns3 ≡ changed_from at (fs ++ (gs ++ hs)) ns
+three_changed at n1 n2 fs gs hs ns ns1 ns2 ns3 room a first b second third =
+    let sizes = length-append fs (gs ++ hs) in
+    let sizes' = length-append gs hs in
+    let same = ap length first ∙ changed_from_length at fs ns in
+    third
+    ∙ ((λ j. changed_from (b j) hs (second j))
+    ∙ (changed_on n1 gs hs ns1 (omega (arith, room, sizes, sizes', a, same))
+    ∙ ((λ j. changed_from (a j) (gs ++ hs) (first j)) ∙ changed_on at fs (gs ++ hs) ns (omega (arith, room, sizes)))))

@@ -2,9 +2,11 @@
 //! point. The table keeps bits, dates and states alone; events and date terms are the deed's.
 #![tactic(auto)]
 
+mod deed;
+mod latches;
 mod node;
 mod table;
 mod telling;
 mod walk;
 
-use node::Node;
+pub use latches::Latches;

@@ -1,0 +1,15 @@
+use Rattle.std.proofs.Common.{◌≡◌, [], get_or, sym, ◌∙◌, ap, w64, to_z, of_z, SFits, rules}
+use Rattle.std.proofs.lemmas.Int.{to_z-of_z}
+use Rattle.sy_core.specs.declared.table.Verdict.TheVariants as V
+use Rattle.sy_prop.specs.Machine.Tables.{values_from}
+use Rattle.sy_prop.specs.Standing.{props_of_deed}
+use Rattle.sy_prop.proofs.Roots.{root_tells}
+use Rattle.sy_prop.proofs.latches.Latches.verdict.Goals as goal
+
+pub returns : goal.returns
+returns c = λ deed h k prop stands is at.
+    let f : SFits w64 c.args.self.now.point = search rules in
+    let p = to_z-of_z w64 c.args.self.now.point f in
+    let e = simp p at c.verdict.ensures in
+    let n = c.as_slice.ensures.value ∙ stands.kept in
+    e ∙ ((λ j. get_or (values_from (stands.at_point j) [] (n j)) (at j) V.Open) ∙ root_tells deed.unit h (props_of_deed deed) k prop is)

@@ -1,0 +1,48 @@
+-- When a table of a deed's propositions stands for a history: it keeps of each atom what the history says of it.
+use Rattle.std.specs.Prelude.{◌≡◌, ℤ, ℕ, zero, suc, ◌+◌, ◌-◌, List, [], ◌∷◌, ◌++◌}
+use Rattle.std.specs.List.{flat_map}
+use Rattle.sy_base.specs.Points.{IsDated}
+use Rattle.sy_core.specs.declared.proposition.Prop.{Prop}
+use Rattle.sy_core.specs.declared.position.Goal.{Goal}
+use Rattle.sy_core.specs.declared.position.Goal.TheVariants as G
+use Rattle.sy_core.specs.declared.position.Position.{Position}
+use Rattle.sy_core.specs.declared.deed.Deed.{Deed}
+use Rattle.sy_atoms.specs.Histories.{History, IsOrderly}
+use Rattle.sy_prop.specs.Machine.Tables.{nodes_of_props}
+use Rattle.sy_prop.specs.Machine.Changes.{table_size}
+use Rattle.sy_prop.specs.declared.latches.Latches.{Latches}
+
+-- what a duty demands; an act demands nothing
+abbrev pub duty_props : Goal → List Prop
+duty_props (G.Duty consequent) = consequent ∷ []
+duty_props (G.Act act) = []
+
+-- the propositions of a position
+abbrev pub position_props : Position → List Prop
+position_props p = p.trigger ∷ p.antecedent ∷ duty_props p.goal
+
+-- the propositions of a deed: those of the positions in their order, then the postconditions
+abbrev pub props_of_deed : Deed → List Prop
+props_of_deed deed = flat_map position_props deed.positions ++ deed.posts
+
+-- the present point of latches
+abbrev pub present_point : Latches → ℤ
+present_point latches = latches.point
+
+-- the latches keep of the deed's propositions what the history says of them
+pub record StandsFor (latches : Latches) (deed : Deed) (h : History) : Type 0 where
+  pub orderly : IsOrderly h
+  pub at_point : latches.point ≡ h.now.point
+  pub kept : latches.nodes.items ≡ nodes_of_props deed.unit h (props_of_deed deed) 0
+
+-- the latches were made for the deed: they stand for it and some history, and their present point is a date
+pub record IsMadeFor (latches : Latches) (deed : Deed) : Type 0 where
+  pub told : History
+  pub stands : StandsFor latches deed told
+  pub dated : IsDated deed.unit latches.point
+
+-- the number of the node of proposition number k, where the first begins with number n
+abbrev pub root_from : List Prop → ℕ → ℕ → ℕ
+root_from [] n k = n
+root_from (p ∷ ps) n zero = n + table_size p - 1
+root_from (p ∷ ps) n (suc k) = root_from ps (n + table_size p) k
