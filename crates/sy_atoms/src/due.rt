@@ -1,13 +1,30 @@
-ghost use Rattle.std.specs.Prelude.{◌≡◌};
+ghost use Rattle.std.specs.Prelude.{◌≡◌, IsTrue};
+ghost use Rattle.sy_core.specs.Soundness.{is_sound_date};
+ghost use Rattle.sy_atoms.specs.Histories.{first_history};
+ghost use Rattle.sy_atoms.specs.Machine.Kept.{due_of};
 ghost use Rattle.sy_atoms.specs.Machine.Windows.{from_on, before_date, after_date};
 
+use crate::sums::add_all;
 use sy_base::Point;
+use sy_core::{Base, DateTerm, Deed};
 
 /// The value of a date term, once it has one. A date without a value yet comes later than every
 /// point so far.
 #[derive(Clone, Copy, Debug)]
 pub struct Due {
     pub value: Option<Point>,
+}
+
+/// The value of a date term at start.
+pub fn first_due(deed: &Deed, term: &DateTerm) -> Due
+    requires sound { IsTrue (is_sound_date deed.now term.now) }
+    ensures { result ≡ due_of deed.now.unit term.now (first_history deed.now.start) }
+{
+    let value = match &term.base {
+        Base::Fixed(point) => Some(add_all(deed.unit, *point, term.plus.items())),
+        Base::First(_) => None,
+    };
+    Due { value }
 }
 
 impl Due {

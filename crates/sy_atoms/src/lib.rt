@@ -12,7 +12,7 @@ mod sums;
 mod update;
 
 pub use atom::Atom;
-pub use due::Due;
+pub use due::{Due, first_due};
 pub use look::{Look, first_look};
 pub use news::News;
 pub use sight::Sight;
