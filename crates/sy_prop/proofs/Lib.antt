@@ -5,4 +5,6 @@ pub mod Sound
 pub mod Sizes
 pub mod Goes
 pub mod Standing
-pub mod Roots
+pub mod RootVerdicts
+pub mod Making
+pub mod Adding

@@ -2,3 +2,4 @@ pub mod Tables
 pub mod Changes
 pub mod Tellings
 pub mod Deeds
+pub mod Roots

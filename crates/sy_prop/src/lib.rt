@@ -4,9 +4,12 @@
 
 mod deed;
 mod latches;
+mod make;
 mod node;
+mod roots;
 mod table;
 mod telling;
 mod walk;
 
 pub use latches::Latches;
+pub use roots::Root;

@@ -3,7 +3,7 @@ use Rattle.std.proofs.lemmas.Int.{to_z-of_z}
 use Rattle.sy_core.specs.declared.table.Verdict.TheVariants as V
 use Rattle.sy_prop.specs.Machine.Tables.{values_from}
 use Rattle.sy_prop.specs.Standing.{props_of_deed}
-use Rattle.sy_prop.proofs.Roots.{root_tells}
+use Rattle.sy_prop.proofs.RootVerdicts.{root_tells}
 use Rattle.sy_prop.proofs.latches.Latches.verdict.Goals as goal
 
 pub returns : goal.returns
