@@ -53,17 +53,40 @@ module _ (unit : TimeUnit) (h : History) where
   goal_sized (G.Duty consequent) n = let e = size_is consequent n in omega (arith, e, length-append (nodes_of_prop unit h consequent n) [])
   goal_sized (G.Act act) n = omega arith
 
-  pub position_sized : (p : Position) (old new : List Node) → new ≡ old ++ nodes_of_props unit h (position_props p) (length old) → length new ≡ after_position (length old) p
-  position_sized p old new made =
-      let n = length old in
+  position_size : (p : Position) (n : ℕ) → n + length (nodes_of_props unit h (position_props p) n) ≡ after_position n p
+  position_size p n =
       let a = nodes_of_prop unit h p.trigger n in
       let b = nodes_of_prop unit h p.antecedent (n + length a) in
       let m = (n + length a) + length b in
       let rest = nodes_of_props unit h (duty_props p.goal) m in
       let ends : m ≡ (n + table_size p.trigger) + table_size p.antecedent = omega (arith, size_is p.trigger n, size_is p.antecedent (n + length a)) in
-      ap length made
-      ∙ (omega (arith, length-append old (a ++ (b ++ rest)), length-append a (b ++ rest), length-append b rest, goal_sized p.goal m)
-      ∙ ap (λ k. after_goal k p.goal) ends)
+      omega (arith, length-append a (b ++ rest), length-append b rest, goal_sized p.goal m)
+      ∙ ap (λ k. after_goal k p.goal) ends
+
+  pub position_sized : (p : Position) (old new : List Node) → new ≡ old ++ nodes_of_props unit h (position_props p) (length old) → length new ≡ after_position (length old) p
+  position_sized p old new made =
+      ap length made ∙ (length-append old (nodes_of_props unit h (position_props p) (length old)) ∙ position_size p (length old))
+
+  pub positions_sized : (ps : List Position) (n : ℕ) → n + length (nodes_of_props unit h (flat_map position_props ps) n) ≡ after_positions n ps
+  positions_sized [] n = omega arith
+  positions_sized (p ∷ ps) n =
+      let own = nodes_of_props unit h (position_props p) n in
+      let rest = nodes_of_props unit h (flat_map position_props ps) in
+      let all = ap length (props_append (position_props p) (flat_map position_props ps) n) in
+      omega (arith, all, length-append own (rest (n + length own)))
+      ∙ (positions_sized ps (n + length own) ∙ ap (λ m. after_positions m ps) (position_size p n))
+
+  -- the nodes of a deed are those of its positions, and then those of its postconditions
+  pub all_added : (xs ys : List Prop) (first all : List Node) → first ≡ nodes_of_props unit h xs 0 → all ≡ first ++ nodes_of_props unit h ys (length first) → all ≡ nodes_of_props unit h (xs ++ ys) 0
+  all_added xs ys first all a b =
+      let own = nodes_of_props unit h xs 0 in
+      let z : length own ≡ 0 + length own = omega arith in
+      b
+      ∙ ((λ j. a j ++ nodes_of_props unit h ys (length (a j)))
+      ∙ (ap (λ n. own ++ nodes_of_props unit h ys n) z ∙ sym (props_append xs ys 0)))
+
+  pub first_post : (ps : List Position) (first : List Node) → first ≡ nodes_of_props unit h (flat_map position_props ps) 0 → length first ≡ after_positions 0 ps
+  first_post ps first a = ap length a ∙ (omega arith ∙ positions_sized ps 0)
 
   -- one proposition more
   pub prop_goes_on : (p : Prop) (rest : List Prop) (nodes added whole : List Node) → added ≡ nodes ++ nodes_of_prop unit h p (length nodes) → nodes ++ nodes_of_props unit h (p ∷ rest) (length nodes) ≡ whole → added ++ nodes_of_props unit h rest (length added) ≡ whole

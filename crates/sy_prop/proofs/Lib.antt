@@ -8,3 +8,4 @@ pub mod Standing
 pub mod RootVerdicts
 pub mod Making
 pub mod Adding
+pub mod Places

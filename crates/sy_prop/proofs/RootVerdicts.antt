@@ -13,7 +13,7 @@ use Rattle.sy_prop.specs.Machine.Tables.{nodes_of_prop, nodes_of_props, values_f
 use Rattle.sy_prop.proofs.Values.{ToldBy, prop_told, values_append}
 use Rattle.sy_prop.proofs.Walking.{more_values}
 use Rattle.sy_prop.specs.Machine.Changes.{stay, table_size}
-use Rattle.sy_prop.specs.Standing.{root_from}
+use Rattle.sy_prop.specs.Machine.Roots.{root_from}
 use Rattle.sy_prop.proofs.Sizes.{prop_sized}
 
 module _ (unit : TimeUnit) (h : History) where

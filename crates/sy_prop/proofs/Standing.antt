@@ -19,7 +19,7 @@ use Rattle.sy_atoms.proofs.Leading.{news_leads, passing_leads, point_after}
 use Rattle.sy_prop.specs.declared.node.Node.{Node}
 use Rattle.sy_prop.specs.declared.latches.Latches.{Latches}
 use Rattle.sy_prop.specs.Machine.Tables.{on_atom, nodes_of_props}
-use Rattle.sy_prop.specs.Machine.Changes.{changes_of, changed, changed_from}
+use Rattle.sy_prop.specs.Machine.Changes.{stay, changes_of, changed, changed_from}
 use Rattle.sy_prop.specs.Machine.Deeds.{changes_of_goal, changes_of_position, changes_of_deed}
 use Rattle.sy_prop.specs.Standing.{duty_props, position_props, props_of_deed, IsMadeFor, StandsFor}
 use Rattle.sy_prop.proofs.Changing.{Change}
@@ -71,7 +71,7 @@ told_point (News.Seen what) h = refl
 told_point (News.Fired kind target) h = refl
 told_point (News.Set target state) h = refl
 
-module _ (old new : Latches) (deed : Deed) (news : News) (same : new.point ≡ old.point) (takes : new.nodes.items ≡ changed_from 0 (changes_of_deed (news_step deed.unit old.point news) deed) old.nodes.items) where
+module _ (old new : Latches) (deed : Deed) (news : News) (same : new.point ≡ old.point) (roots : new.roots ≡ old.roots) (posts : new.posts ≡ old.posts) (takes : new.nodes.items ≡ changed_from 0 (changes_of_deed (news_step deed.unit old.point news) deed) old.nodes.items) where
   pub told_stands : (h : History) → StandsFor old deed h → StandsFor new deed (telling news h)
   told_stands h stands =
       let props = props_of_deed deed in
@@ -84,6 +84,8 @@ module _ (old new : Latches) (deed : Deed) (news : News) (same : new.point ≡ o
             ∙ (ap (λ l. changed l old.nodes.items) (sym (of_deed (news_step deed.unit old.point news) deed))
             ∙ ((λ j. changed (flat_map (changes_of (news_step deed.unit (stands.at_point j) news)) props) (stands.kept j))
             ∙ props_told_on (news_step deed.unit h.now.point news) deed.unit h (telling news h) (news_leads deed.unit h stands.orderly news) props 0)));
+        roots = ap (λ v. v.items) roots ∙ stands.roots;
+        posts = ap (λ v. v.items) posts ∙ stands.posts;
       }
 
   pub told_made : IsMadeFor old deed → IsMadeFor new deed
@@ -98,7 +100,7 @@ gap : (p q : ℤ) → p <ℤ q → (m : ℕ) × (nat_abs (q -ℤ p) ≡ suc m) �
 gap p q lt = (nat_abs (q -ℤ p) - 1, omega (arith, ints, lt), omega (arith, ints, lt))
 
 -- points go by
-module _ (old new : Latches) (deed : Deed) (q : ℤ) (lt : old.point <ℤ q) (at : new.point ≡ q) (takes : new.nodes.items ≡ map (on_atom (passed_to old.point (old.point +ℤ pos 1) q)) old.nodes.items) where
+module _ (old new : Latches) (deed : Deed) (q : ℤ) (lt : old.point <ℤ q) (at : new.point ≡ q) (roots : new.roots ≡ old.roots) (posts : new.posts ≡ old.posts) (takes : new.nodes.items ≡ map (on_atom (passed_to old.point (old.point +ℤ pos 1) q)) old.nodes.items) where
   pub passed_stands : (h : History) → StandsFor old deed h → StandsFor new deed (passing (nat_abs (q -ℤ old.point)) h)
   passed_stands h stands =
       let g = gap old.point q lt in
@@ -111,6 +113,8 @@ module _ (old new : Latches) (deed : Deed) (q : ℤ) (lt : old.point <ℤ q) (at
             takes
             ∙ ((λ j. map (on_atom (passed_to (stands.at_point j) (stands.at_point j +ℤ pos 1) (last j))) (stands.kept j))
             ∙ props_go deed.unit h (passing (suc m) h) (passed_to h.now.point (h.now.point +ℤ pos 1) (h.now.point +ℤ pos (suc m))) (passing_leads deed.unit h m) (props_of_deed deed) 0);
+        roots = ap (λ v. v.items) roots ∙ stands.roots;
+        posts = ap (λ v. v.items) posts ∙ stands.posts;
       })
 
   pub passed_made : IsDated deed.unit q → IsMadeFor old deed → IsMadeFor new deed
@@ -119,3 +123,29 @@ module _ (old new : Latches) (deed : Deed) (q : ℤ) (lt : old.point <ℤ q) (at
     stands = passed_stands made.told made.stands;
     dated = subst (IsDated deed.unit) (sym at) dated;
   }
+
+-- other latches become the same
+module _ (old new other : Latches) (deed : Deed) (made : IsMadeFor old deed) (made' : IsMadeFor other deed) where
+  pub same_size : length old.nodes.items ≡ length other.nodes.items
+  same_size =
+      let props = props_of_deed deed in
+      ap length made.stands.kept
+      ∙ (sym (props_alike (same_step stay) deed.unit made.told made.told props 0)
+      ∙ (props_alike (same_step stay) deed.unit made'.told made'.told props 0 ∙ sym (ap length made'.stands.kept)))
+
+  module _ (at : new.point ≡ old.point) (nodes : new.nodes.items ≡ old.nodes.items) (roots : new.roots ≡ other.roots) (posts : new.posts ≡ other.posts) where
+    pub copied_stands : (d : Deed) (h : History) → StandsFor old d h → StandsFor new d h
+    copied_stands d h stands = record {
+      orderly = stands.orderly;
+      at_point = at ∙ stands.at_point;
+      kept = nodes ∙ stands.kept;
+      roots = ap (λ v. v.items) roots ∙ (made'.stands.roots ∙ (sym made.stands.roots ∙ stands.roots));
+      posts = ap (λ v. v.items) posts ∙ (made'.stands.posts ∙ (sym made.stands.posts ∙ stands.posts));
+    }
+
+    pub copied_made : (d : Deed) → IsMadeFor old d → IsMadeFor new d
+    copied_made d m = record {
+      told = m.told;
+      stands = copied_stands d m.told m.stands;
+      dated = subst (IsDated d.unit) (sym at) m.dated;
+    }

@@ -1,6 +1,7 @@
 -- When a table of a deed's propositions stands for a history: it keeps of each atom what the history says of it.
-use Rattle.std.specs.Prelude.{◌≡◌, ℤ, ℕ, zero, suc, ◌+◌, ◌-◌, List, [], ◌∷◌, ◌++◌}
+use Rattle.std.specs.Prelude.{◌≡◌, ℤ, List, [], ◌∷◌, ◌++◌, Option, Some, None, slice_get}
 use Rattle.std.specs.List.{flat_map}
+use Rattle.std.specs.Option.{option_map}
 use Rattle.sy_base.specs.Points.{IsDated}
 use Rattle.sy_core.specs.declared.proposition.Prop.{Prop}
 use Rattle.sy_core.specs.declared.position.Goal.{Goal}
@@ -9,7 +10,9 @@ use Rattle.sy_core.specs.declared.position.Position.{Position}
 use Rattle.sy_core.specs.declared.deed.Deed.{Deed}
 use Rattle.sy_atoms.specs.Histories.{History, IsOrderly}
 use Rattle.sy_prop.specs.Machine.Tables.{nodes_of_props}
-use Rattle.sy_prop.specs.Machine.Changes.{table_size}
+use Rattle.sy_prop.specs.Machine.Roots.{after_positions, roots_from, posts_from}
+use Rattle.sy_prop.specs.declared.roots.Root.{Root}
+use Rattle.sy_prop.specs.declared.roots.Root.TheVariants as R
 use Rattle.sy_prop.specs.declared.latches.Latches.{Latches}
 
 -- what a duty demands; an act demands nothing
@@ -25,6 +28,22 @@ position_props p = p.trigger ∷ p.antecedent ∷ duty_props p.goal
 abbrev pub props_of_deed : Deed → List Prop
 props_of_deed deed = flat_map position_props deed.positions ++ deed.posts
 
+-- what the position that is there demands, if it is a duty
+abbrev pub duty_of : Goal → Option Prop
+duty_of (G.Duty consequent) = Some consequent
+duty_of (G.Act act) = None
+
+abbrev pub consequent_of : Option Position → Option Prop
+consequent_of None = None
+consequent_of (Some p) = duty_of p.goal
+
+-- the proposition at a place of the deed, where there is one
+abbrev pub prop_at : Deed → Root → Option Prop
+prop_at deed (R.Trigger i) = option_map (λ p. p.trigger) (slice_get deed.positions i)
+prop_at deed (R.Antecedent i) = option_map (λ p. p.antecedent) (slice_get deed.positions i)
+prop_at deed (R.Consequent i) = consequent_of (slice_get deed.positions i)
+prop_at deed (R.Post j) = slice_get deed.posts j
+
 -- the present point of latches
 abbrev pub present_point : Latches → ℤ
 present_point latches = latches.point
@@ -34,15 +53,11 @@ pub record StandsFor (latches : Latches) (deed : Deed) (h : History) : Type 0 wh
   pub orderly : IsOrderly h
   pub at_point : latches.point ≡ h.now.point
   pub kept : latches.nodes.items ≡ nodes_of_props deed.unit h (props_of_deed deed) 0
+  pub roots : latches.roots.items ≡ roots_from 0 deed.positions
+  pub posts : latches.posts.items ≡ posts_from (after_positions 0 deed.positions) deed.posts
 
 -- the latches were made for the deed: they stand for it and some history, and their present point is a date
 pub record IsMadeFor (latches : Latches) (deed : Deed) : Type 0 where
   pub told : History
   pub stands : StandsFor latches deed told
   pub dated : IsDated deed.unit latches.point
-
--- the number of the node of proposition number k, where the first begins with number n
-abbrev pub root_from : List Prop → ℕ → ℕ → ℕ
-root_from [] n k = n
-root_from (p ∷ ps) n zero = n + table_size p - 1
-root_from (p ∷ ps) n (suc k) = root_from ps (n + table_size p) k

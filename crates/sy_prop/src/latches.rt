@@ -1,19 +1,24 @@
-ghost use Rattle.std.specs.Prelude.{◌≡◌, ◌≤ℤ◌, ◌-ℤ◌, nat_abs, ℕ, slice_get, Some};
+ghost use Rattle.std.specs.Prelude.{◌≡◌, ◌≤ℤ◌, ◌-ℤ◌, nat_abs, Some, IfOk, length};
 ghost use Rattle.sy_base.specs.Points.{IsDated};
 ghost use Rattle.sy_core.specs.declared.deed.Deed.{Deed};
 ghost use Rattle.sy_core.specs.declared.proposition.Prop.{Prop};
 ghost use Rattle.sy_core.specs.Propositions.{verdict_at};
 ghost use Rattle.sy_core.specs.Soundness.{HasSoundParts};
-ghost use Rattle.sy_atoms.specs.Histories.{History, seeing, firing, setting, passing};
+ghost use Rattle.sy_atoms.specs.Histories.{History, first_history, seeing, firing, setting, passing};
 ghost use Rattle.sy_atoms.specs.Machine.Told.{telling};
-ghost use Rattle.sy_prop.specs.Standing.{IsMadeFor, StandsFor, present_point, props_of_deed, root_from};
+ghost use Rattle.sy_prop.specs.declared.roots.Root.{Root};
+ghost use Rattle.sy_prop.specs.Machine.Roots.{root_of};
+ghost use Rattle.sy_prop.specs.Standing.{IsMadeFor, StandsFor, present_point, prop_at};
 
 use crate::deed::tell_deed;
+use crate::make::{add_positions, add_posts};
 use crate::node::Node;
+use crate::roots::{PositionRoots, Root};
 use crate::table::{pass_to, verdict};
 use crate::telling::Telling;
+use std::alloc::Global;
 use sy_atoms::News;
-use sy_base::Point;
+use sy_base::{Memory, Point};
 use sy_core::{Deed, Kind, StateOf, Target, Verdict, What};
 
 /// What is kept of the past of all propositions of a deed, and the present point.
@@ -21,9 +26,43 @@ use sy_core::{Deed, Kind, StateOf, Target, Verdict, What};
 pub struct Latches {
     pub(crate) point: Point,
     pub(crate) nodes: Vec<Node>,
+    /// The nodes of the positions' propositions.
+    pub(crate) roots: Vec<PositionRoots>,
+    /// The nodes of the postconditions.
+    pub(crate) posts: Vec<usize>,
+}
+
+/// Writes the nodes over as many others.
+fn copy_nodes(from: &[Node], to: &mut [Node])
+    requires { length from.now ≡ length to.old }
+    ensures { to.new ≡ from.now }
+{
+    to.copy_from_slice(from);
 }
 
 impl Latches {
+    /// Latches for a deed. Their present point is the deed's start, at which nothing was told yet.
+    /// They take all their memory here.
+    pub fn new(alloc: Global, deed: &Deed) -> Result<Latches, Memory>
+        requires { HasSoundParts deed.now }
+        ensures made { IfOk result (λ latches. IsMadeFor latches deed.now) }
+        ensures point { IfOk result (λ latches. present_point latches ≡ deed.now.start) }
+        ensures stands { IfOk result
+            (λ latches. StandsFor latches deed.now (first_history deed.now.start)) }
+    {
+        let mut nodes = Vec::new(alloc);
+        let mut roots = Vec::new(alloc);
+        let mut posts = Vec::new(alloc);
+        add_positions(&mut nodes, &mut roots, deed)?;
+        add_posts(&mut nodes, &mut posts, deed)?;
+        Ok(Latches {
+            point: deed.start,
+            nodes,
+            roots,
+            posts,
+        })
+    }
+
     /// Something is told at the present point.
     fn tell(&mut self, deed: &Deed, news: News)
         requires sound { HasSoundParts deed.now }
@@ -98,13 +137,52 @@ impl Latches {
         }
     }
 
-    /// The verdict of the proposition with this node, at the present point.
+    /// The node of the proposition at a place of the deed that the latches were made for.
+    pub fn root(&self, place: Root) -> usize
+        ensures { (deed : Deed) (h : History) → StandsFor self.now deed h
+            → result ≡ root_of deed place }
+    {
+        match place {
+            Root::Trigger(position) => match self.roots.get(position as usize) {
+                Some(roots) => roots.trigger,
+                None => 0,
+            },
+            Root::Antecedent(position) => match self.roots.get(position as usize) {
+                Some(roots) => roots.antecedent,
+                None => 0,
+            },
+            Root::Consequent(position) => match self.roots.get(position as usize) {
+                Some(roots) => roots.consequent,
+                None => 0,
+            },
+            Root::Post(number) => match self.posts.get(number as usize) {
+                Some(root) => *root,
+                None => 0,
+            },
+        }
+    }
+
+    /// The verdict at the present point of the proposition with this node, which is one that `root`
+    /// gives.
     pub fn verdict(&self, node: usize) -> Verdict
-        ensures { (deed : Deed) (h : History) (k : ℕ) (prop : Prop) → StandsFor self.now deed h
-            → slice_get (props_of_deed deed) k ≡ Some prop
-            → node ≡ root_from (props_of_deed deed) 0 k
+        ensures { (deed : Deed) (h : History) (place : Root) (prop : Prop)
+            → StandsFor self.now deed h
+            → prop_at deed place ≡ Some prop
+            → node ≡ root_of deed place
             → result ≡ verdict_at deed.unit h.now h.before prop }
     {
         verdict(self.nodes.as_slice(), self.point, node)
+    }
+
+    /// Makes other latches that were made for the same deed the same as these. It takes no memory.
+    pub fn copy_into(&self, other: &mut Latches)
+        requires made { (deed : Deed) × IsMadeFor self.now deed × IsMadeFor other.old deed }
+        ensures made { (deed : Deed) → IsMadeFor self.now deed → IsMadeFor other.new deed }
+        ensures point { present_point other.new ≡ present_point self.now }
+        ensures stands { (deed : Deed) (h : History) → StandsFor self.now deed h
+            → StandsFor other.new deed h }
+    {
+        copy_nodes(self.nodes.as_slice(), other.nodes.as_mut_slice());
+        other.point = self.point;
     }
 }

@@ -129,7 +129,7 @@ fn add_position(
 }
 
 /// Adds the nodes of all positions, and where those of each end.
-fn add_positions(
+pub(crate) fn add_positions(
     nodes: &mut Vec<Node>,
     roots: &mut Vec<PositionRoots>,
     deed: &Deed,
@@ -149,7 +149,11 @@ fn add_positions(
 }
 
 /// Adds the nodes of the postconditions, and where those of each end.
-fn add_posts(nodes: &mut Vec<Node>, posts: &mut Vec<usize>, deed: &Deed) -> Result<(), Memory>
+pub(crate) fn add_posts(
+    nodes: &mut Vec<Node>,
+    posts: &mut Vec<usize>,
+    deed: &Deed,
+) -> Result<(), Memory>
     requires sound { IsTrue (list_all (is_sound_prop deed.now) deed.now.posts) }
     requires no_posts { posts.old.items ≡ [] }
     ensures nodes { OnOk result (nodes.new.items

@@ -65,3 +65,9 @@ root_of deed (R.Trigger i) = root_by (λ r. r.trigger) (slice_get (roots_from 0 
 root_of deed (R.Antecedent i) = root_by (λ r. r.antecedent) (slice_get (roots_from 0 deed.positions) i)
 root_of deed (R.Consequent i) = root_by (λ r. r.consequent) (slice_get (roots_from 0 deed.positions) i)
 root_of deed (R.Post j) = or_first (slice_get (posts_from (after_positions 0 deed.positions) deed.posts) j)
+
+-- the number of the node of proposition number k, where the first begins with number n
+abbrev pub root_from : List Prop → ℕ → ℕ → ℕ
+root_from [] n k = n
+root_from (p ∷ ps) n zero = n + table_size p - 1
+root_from (p ∷ ps) n (suc k) = root_from ps (n + table_size p) k
