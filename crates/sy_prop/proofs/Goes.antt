@@ -15,7 +15,7 @@ use Rattle.sy_prop.specs.declared.node.Node.TheVariants as N
 use Rattle.sy_prop.specs.Machine.Tables.{chain, chain_from, nodes_step, nodes_of_prop, nodes_of_props, on_atom}
 use Rattle.sy_prop.specs.Machine.Changes.{stay, and_join, changes_step, changes_of, changed, changed_from}
 use Rattle.sy_prop.proofs.Changing.{Change}
-use Rattle.sy_prop.proofs.Sizes.{prop_sized, alike}
+use Rattle.sy_prop.proofs.Sizes.{alike}
 
 changed_append : (fs gs : List Change) (xs ys : List Node) → length fs ≡ length xs → changed (fs ++ gs) (xs ++ ys) ≡ changed fs xs ++ changed gs ys
 changed_append [] gs [] ys e = refl

@@ -1,5 +1,5 @@
 -- The nodes of a proposition with parts, and what a loop over the parts keeps.
-use Rattle.std.proofs.Common.{◌≡◌, ℕ, suc, zero, ◌+◌, ◌-◌, ◌<◌, ◌≤◌, Bool, true, false, ◌&&◌, List, [], ◌∷◌, ◌++◌, map, drop, length, get_or, refl, sym, ◌∙◌, ap, subst, arith, append_assoc, length-append, drop-cons, add-one}
+use Rattle.std.proofs.Common.{◌≡◌, ℕ, suc, zero, ◌+◌, ◌-◌, ◌<◌, ◌≤◌, true, false, List, [], ◌∷◌, ◌++◌, map, drop, length, get_or, refl, sym, ◌∙◌, ap, arith, append_assoc, length-append, drop-cons, add-one}
 use Rattle.sy_base.specs.declared.time.TimeUnit.{TimeUnit}
 use Rattle.sy_core.specs.declared.proposition.Prop.{Prop}
 use Rattle.sy_core.specs.declared.proposition.Prop.TheVariants as Props

@@ -1,5 +1,5 @@
 -- The value at a proposition's root is its verdict.
-use Rattle.std.proofs.Common.{◌≡◌, ℕ, zero, suc, ◌+◌, ◌-◌, ℤ, List, [], ◌∷◌, ◌++◌, length, get_or, Option, Some, slice_get, refl, sym, ◌∙◌, ap, subst, arith, append_assoc, length-append}
+use Rattle.std.proofs.Common.{◌≡◌, ℕ, zero, suc, ◌+◌, ◌-◌, List, [], ◌∷◌, ◌++◌, length, get_or, Some, slice_get, refl, ◌∙◌, ap, subst, arith, append_assoc, length-append}
 use Rattle.std.proofs.Math.Seq.{get_or-append_seam}
 use Rattle.sy_base.specs.declared.time.TimeUnit.{TimeUnit}
 use Rattle.sy_core.specs.declared.proposition.Prop.{Prop}
@@ -8,7 +8,6 @@ use Rattle.sy_core.specs.declared.table.Verdict.TheVariants as V
 use Rattle.sy_core.specs.Propositions.{verdict_at}
 use Rattle.sy_atoms.specs.Histories.{History}
 use Rattle.sy_atoms.specs.Machine.Steps.{same_step}
-use Rattle.sy_prop.specs.declared.node.Node.{Node}
 use Rattle.sy_prop.specs.Machine.Tables.{nodes_of_prop, nodes_of_props, values_from}
 use Rattle.sy_prop.proofs.Values.{ToldBy, prop_told, values_append}
 use Rattle.sy_prop.proofs.Walking.{more_values}

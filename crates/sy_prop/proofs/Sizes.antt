@@ -1,5 +1,5 @@
 -- How many nodes a proposition has, and how many changes are made to them.
-use Rattle.std.proofs.Common.{◌≡◌, ℕ, ◌+◌, ◌-◌, List, [], ◌∷◌, ◌++◌, map, length, refl, sym, ◌∙◌, ap, subst, arith, length-append}
+use Rattle.std.proofs.Common.{◌≡◌, ℕ, ◌+◌, ◌-◌, List, [], ◌∷◌, map, length, refl, sym, ◌∙◌, ap, subst, arith, length-append}
 use Rattle.std.specs.List.{flat_map}
 use Rattle.sy_base.specs.declared.time.TimeUnit.{TimeUnit}
 use Rattle.sy_core.specs.declared.proposition.Prop.{Prop}
@@ -7,7 +7,6 @@ use Rattle.sy_core.specs.declared.proposition.Prop.TheOpen.{Prop-F}
 use Rattle.sy_core.specs.declared.proposition.Prop.TheOpen as P
 use Rattle.sy_core.specs.declared.proposition.Prop.TheViews.{roll-Prop}
 use Rattle.sy_core.specs.declared.proposition.Prop.TheFolds.{fold-roll-Prop, map-Prop, ind-Prop}
-use Rattle.sy_atoms.specs.declared.atom.Atom.{Atom}
 use Rattle.sy_atoms.specs.Histories.{History}
 use Rattle.sy_atoms.specs.Machine.Steps.{Step}
 use Rattle.sy_prop.specs.declared.node.Node.{Node}

@@ -1,24 +1,21 @@
 -- Latches that stood for a history stand for the next one.
-use Rattle.std.proofs.Common.{◌≡◌, ℕ, zero, suc, ◌+◌, ◌-◌, ◌≤◌, ℤ, pos, ◌+ℤ◌, ◌-ℤ◌, ◌<ℤ◌, nat_abs, List, [], ◌∷◌, ◌++◌, map, length, refl, sym, ◌∙◌, ap, subst, arith, append_assoc, length-append}
+use Rattle.std.proofs.Common.{◌≡◌, ℕ, suc, ◌-◌, ◌≤◌, ℤ, pos, ◌+ℤ◌, ◌-ℤ◌, ◌<ℤ◌, nat_abs, List, [], ◌∷◌, ◌++◌, map, length, refl, sym, ◌∙◌, ap, subst, arith, append_assoc}
 use Rattle.std.proofs.lemmas.Int.{ints}
 use Rattle.std.specs.List.{flat_map}
 use Rattle.sy_base.specs.Points.{IsDated}
-use Rattle.sy_core.specs.declared.proposition.Prop.{Prop}
 use Rattle.sy_core.specs.declared.position.Goal.{Goal}
 use Rattle.sy_core.specs.declared.position.Goal.TheVariants as G
 use Rattle.sy_core.specs.declared.position.Position.{Position}
 use Rattle.sy_core.specs.declared.deed.Deed.{Deed}
 use Rattle.sy_atoms.specs.declared.news.News.{News}
-use Rattle.sy_atoms.specs.declared.news.News.TheVariants as News
 use Rattle.sy_atoms.specs.Histories.{History, IsOrderly, passing}
 use Rattle.sy_atoms.specs.Machine.Told.{telling}
 use Rattle.sy_atoms.specs.Machine.Atoms.{passed_to}
 use Rattle.sy_atoms.specs.Machine.Steps.{Step, news_step, same_step}
 use Rattle.sy_atoms.proofs.Keeping.{orderly_passing}
 use Rattle.sy_atoms.proofs.Leading.{news_leads, passing_leads, point_after}
-use Rattle.sy_prop.specs.declared.node.Node.{Node}
 use Rattle.sy_prop.specs.declared.latches.Latches.{Latches}
-use Rattle.sy_prop.specs.Machine.Tables.{on_atom, nodes_of_props}
+use Rattle.sy_prop.specs.Machine.Tables.{on_atom}
 use Rattle.sy_prop.specs.Machine.Changes.{stay, changes_of, changed, changed_from}
 use Rattle.sy_prop.specs.Machine.Deeds.{changes_of_goal, changes_of_position, changes_of_deed}
 use Rattle.sy_prop.specs.Standing.{duty_props, position_props, props_of_deed, IsMadeFor, StandsFor}

@@ -1,14 +1,7 @@
 -- The values of a proposition's nodes end with its verdict, and its nodes go on with the history.
-use Rattle.std.proofs.Common.{◌≡◌, ℕ, zero, suc, ◌+◌, ◌-◌, ◌<◌, ◌≤◌, ℤ, pos, ◌+ℤ◌, ◌≤ℤ◌, Bool, true, false, not, List, [], ◌∷◌, ◌++◌, map, length, get_or, refl, sym, ◌∙◌, ap, subst, arith, append_assoc, length-append}
-use Rattle.std.proofs.lemmas.Int.{ints}
+use Rattle.std.proofs.Common.{◌≡◌, ℕ, suc, ◌+◌, ◌-◌, ℤ, Bool, true, false, not, List, [], ◌∷◌, ◌++◌, map, length, get_or, refl, sym, ◌∙◌, ap, subst, arith, append_assoc, length-append}
 use Rattle.std.proofs.Math.Seq.{get_or-append_seam}
-use Rattle.std.proofs.lemmas.List.{get_or_append_left}
 use Rattle.sy_base.specs.declared.time.TimeUnit.{TimeUnit}
-use Rattle.sy_core.specs.declared.kind.Target.{Target}
-use Rattle.sy_core.specs.declared.state.StateOf.{StateOf}
-use Rattle.sy_core.specs.declared.event.Ev.{Ev}
-use Rattle.sy_core.specs.declared.date_term.DateTerm.{DateTerm}
-use Rattle.sy_core.specs.declared.proposition.Situation.{Situation}
 use Rattle.sy_core.specs.declared.proposition.Prop.{Prop}
 use Rattle.sy_core.specs.declared.proposition.Prop.TheOpen.{Prop-F}
 use Rattle.sy_core.specs.declared.proposition.Prop.TheOpen as P
@@ -18,12 +11,12 @@ use Rattle.sy_core.specs.declared.table.Verdict.{Verdict}
 use Rattle.sy_core.specs.declared.table.Verdict.TheVariants as V
 use Rattle.sy_core.specs.Propositions.{verdict_by, opposite, lesser, greater, least, greatest, verdict_step, verdict_at}
 use Rattle.sy_atoms.specs.declared.atom.Atom.{Atom}
-use Rattle.sy_atoms.specs.Histories.{History, moments}
+use Rattle.sy_atoms.specs.Histories.{History}
 use Rattle.sy_atoms.specs.Machine.Atoms.{happens_of, before_of, after_of, within_of, occurs_of, holds_of, atom_verdict}
 use Rattle.sy_atoms.proofs.AtomLaws.{happens_tells, before_tells, after_tells, within_tells, occurs_tells}
 use Rattle.sy_prop.specs.declared.node.Node.{Node}
 use Rattle.sy_prop.specs.declared.node.Node.TheVariants as N
-use Rattle.sy_prop.specs.Machine.Tables.{chain, chain_from, nodes_step, nodes_of_prop, nodes_of_props, on_atom, last_of, node_value, values_from}
+use Rattle.sy_prop.specs.Machine.Tables.{chain, chain_from, nodes_step, nodes_of_prop, last_of, node_value, values_from}
 
 append_none : {X : Type 0} (xs : List X) → xs ++ [] ≡ xs
 append_none [] = refl

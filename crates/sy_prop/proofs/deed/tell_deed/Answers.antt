@@ -1,4 +1,4 @@
-use Rattle.std.proofs.Common.{◌≡◌, ◌+◌, length, sym, ◌∙◌, ap, arith, length-append}
+use Rattle.std.proofs.Common.{◌≡◌, ◌+◌, length, ◌∙◌, ap, arith, length-append}
 use Rattle.sy_prop.specs.Machine.Changes.{changed, changed_from}
 use Rattle.sy_prop.specs.Machine.Deeds.{changes_of_positions, changes_of_posts}
 use Rattle.sy_prop.specs.Machine.Tellings.{step_of}

@@ -1,4 +1,4 @@
-use Rattle.std.proofs.Common.{◌≡◌, ◌+◌, length, refl, sym, ◌∙◌, ap, arith}
+use Rattle.std.proofs.Common.{length, refl, ◌∙◌, ap, arith}
 use Rattle.std.specs.List.{flat_map}
 use Rattle.sy_prop.specs.Machine.Changes.{changes_of, changed_from}
 use Rattle.sy_prop.specs.Machine.Tellings.{step_of}

@@ -1,4 +1,4 @@
-use Rattle.std.proofs.Common.{◌≡◌, ◌++◌, ◌∷◌, [], ◌+◌, ◌-◌, ◌<◌, List, length, rules, sym, ◌∙◌, ap, arith, length-append}
+use Rattle.std.proofs.Common.{◌≡◌, ◌++◌, ◌∷◌, [], ◌-◌, length, rules, ◌∙◌, ap, arith, length-append}
 use Rattle.sy_core.specs.declared.proposition.Prop.TheFolds.{the_lemmas}
 use Rattle.sy_atoms.specs.Histories.{first_history}
 use Rattle.sy_prop.specs.declared.node.Node.TheVariants as N

@@ -1,4 +1,4 @@
-use Rattle.std.proofs.Common.{◌≡◌, ◌+◌, ◌-◌, length, sym, ◌∙◌, ap}
+use Rattle.std.proofs.Common.{◌+◌, ◌-◌, ◌∙◌, ap}
 use Rattle.sy_atoms.specs.Histories.{first_history}
 use Rattle.sy_prop.specs.Machine.Changes.{table_size}
 use Rattle.sy_prop.specs.Machine.Roots.{after_goal}

@@ -1,4 +1,4 @@
-use Rattle.std.proofs.Common.{◌≡◌, ◌++◌, ◌∷◌, [], ◌+◌, length, drop, sym, ◌∙◌, ap, subst}
+use Rattle.std.proofs.Common.{◌≡◌, ◌++◌, ◌∷◌, [], ◌+◌, length, drop, sym, ◌∙◌, ap}
 use Rattle.std.specs.List.{flat_map}
 use Rattle.sy_atoms.specs.Histories.{first_history}
 use Rattle.sy_prop.specs.Machine.Tables.{nodes_of_props}

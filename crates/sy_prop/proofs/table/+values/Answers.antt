@@ -1,12 +1,8 @@
-use Rattle.std.proofs.Common.{◌≡◌, ℕ, ℤ, ◌-◌, ◌<◌, ◌≤◌, refl, sym, ◌∙◌, ap, subst, arith, length, take, get_or, List, [], w64, to_z, of_z}
+use Rattle.std.proofs.Common.{◌<◌, sym, ◌∙◌, ap, arith, take, [], w64}
 use Rattle.std.proofs.lemmas.Int.{to_z-of_z}
 use Rattle.sy_core.specs.Propositions.{opposite, lesser, greater}
-use Rattle.sy_core.specs.declared.table.Verdict.{Verdict}
-use Rattle.sy_core.specs.declared.table.Verdict.TheVariants as V
-use Rattle.sy_atoms.specs.Machine.Atoms.{atom_verdict}
-use Rattle.sy_prop.specs.declared.node.Node.{Node}
 use Rattle.sy_prop.specs.declared.node.Node.TheVariants as N
-use Rattle.sy_prop.specs.Machine.Tables.{last_of, node_value, values_from}
+use Rattle.sy_prop.specs.Machine.Tables.{last_of, values_from}
 use Rattle.sy_prop.proofs.Walking.{value_is, values_length, in_front, past_front, last_in_front, last_of_none, past_values}
 use Rattle.sy_prop.proofs.table.+values.Goals as goal
 

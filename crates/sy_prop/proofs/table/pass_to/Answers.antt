@@ -1,6 +1,5 @@
-use Rattle.std.proofs.Common.{◌≡◌, map, take, drop, ◌++◌, ◌+◌, arith, w64}
+use Rattle.std.proofs.Common.{w64}
 use Rattle.std.proofs.lemmas.Int.{to_z-of_z}
-use Rattle.sy_core.specs.Matching.{matches}
 use Rattle.sy_atoms.specs.Machine.Atoms.{passed_to}
 use Rattle.sy_prop.specs.Machine.Tables.{on_atom}
 use Rattle.sy_prop.proofs.Walking.{set_goes_on, set_is_done}

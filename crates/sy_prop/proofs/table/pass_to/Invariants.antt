@@ -1,5 +1,4 @@
 use Rattle.std.proofs.Common.{◌≡◌, map, take, drop, ◌++◌}
-use Rattle.sy_core.specs.Matching.{matches}
 use Rattle.sy_atoms.specs.Machine.Atoms.{passed_to}
 use Rattle.sy_prop.specs.Machine.Tables.{on_atom}
 use Rattle.sy_prop.proofs.table.pass_to.Given as goal

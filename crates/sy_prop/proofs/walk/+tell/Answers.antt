@@ -1,10 +1,10 @@
-use Rattle.std.proofs.Common.{◌≡◌, ◌+◌, ◌≤◌, [], ◌∷◌, suc, length, map, arith, refl, sym, ◌∙◌, ap, rules, length-append}
+use Rattle.std.proofs.Common.{◌+◌, ◌≤◌, [], ◌∷◌, length, arith, sym, ◌∙◌, ap, rules, length-append}
 use Rattle.std.specs.List.{flat_map}
 use Rattle.sy_core.specs.declared.proposition.Prop.TheFolds.{the_lemmas}
 use Rattle.sy_prop.specs.Machine.Changes.{stay, changes_of, changed_from}
 use Rattle.sy_prop.specs.Machine.Tellings.{step_of}
 use Rattle.sy_prop.proofs.Changing.{part_changes, changes-all, changes-any, changes-const, changes-not, stay_changes, and_skips, parts_begin, part_room, part_goes, parts_end}
-use Rattle.sy_prop.proofs.Sound.{sound_part_of_all, sound_part_of_any, sound_start_of_within, sound_end_of_within, sound_start_of_occurs, sound_end_of_occurs}
+use Rattle.sy_prop.proofs.Sound.{sound_part_of_all, sound_part_of_any, sound_end_of_within, sound_start_of_occurs, sound_end_of_occurs}
 use Rattle.sy_prop.proofs.walk.+tell.Goals as goal
 
 pub loop-part-init : goal.loop-part-init

@@ -1,4 +1,4 @@
-use Rattle.std.proofs.Common.{◌≡◌, length, refl, sym, ◌∙◌, ap, w64, to_z, of_z}
+use Rattle.std.proofs.Common.{length, refl, sym, ◌∙◌, ap, w64, to_z, of_z}
 use Rattle.std.proofs.lemmas.List.{with_items_is}
 use Rattle.std.specs.Vec.{with_items}
 use Rattle.sy_atoms.proofs.Dates.{dated_is_passed}

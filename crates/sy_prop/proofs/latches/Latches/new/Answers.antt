@@ -1,11 +1,10 @@
-use Rattle.std.proofs.Common.{◌≡◌, length, sym, ◌∙◌, ap, subst, w64, to_z, of_z}
+use Rattle.std.proofs.Common.{sym, ◌∙◌, ap, subst}
 use Rattle.std.specs.List.{flat_map}
 use Rattle.sy_base.specs.Points.{IsDated}
 use Rattle.sy_atoms.specs.Histories.{first_history}
 use Rattle.sy_atoms.proofs.Dates.{dated_is_passed}
-use Rattle.sy_prop.specs.declared.latches.Latches.{Latches}
 use Rattle.sy_prop.specs.Machine.Roots.{posts_from}
-use Rattle.sy_prop.specs.Standing.{position_props, StandsFor}
+use Rattle.sy_prop.specs.Standing.{position_props}
 use Rattle.sy_prop.proofs.Adding.{all_added, first_post}
 use Rattle.sy_prop.proofs.latches.Latches.new.Goals as goal
 

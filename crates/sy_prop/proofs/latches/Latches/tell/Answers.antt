@@ -1,4 +1,4 @@
-use Rattle.std.proofs.Common.{◌≡◌, length, refl, sym, ◌∙◌, ap, arith}
+use Rattle.std.proofs.Common.{length, refl, ◌∙◌, ap, arith}
 use Rattle.std.proofs.lemmas.List.{with_items_is}
 use Rattle.std.specs.Vec.{with_items}
 use Rattle.sy_atoms.specs.Machine.Steps.{news_step}
@@ -6,7 +6,6 @@ use Rattle.sy_atoms.proofs.Dates.{dated_is_passed}
 use Rattle.sy_prop.specs.declared.latches.Latches.{Latches}
 use Rattle.sy_prop.specs.Machine.Changes.{changed_from}
 use Rattle.sy_prop.specs.Machine.Deeds.{changes_of_deed}
-use Rattle.sy_prop.specs.Machine.Tellings.{step_of}
 use Rattle.sy_prop.proofs.Standing.{has_room, told_made, told_stands}
 use Rattle.sy_prop.proofs.latches.Latches.tell.Goals as goal
 

@@ -1,4 +1,4 @@
-use Rattle.std.proofs.Common.{◌≡◌, [], get_or, sym, ◌∙◌, ap, w64, to_z, of_z, SFits, rules}
+use Rattle.std.proofs.Common.{[], get_or, ◌∙◌, w64, SFits, rules}
 use Rattle.std.proofs.lemmas.Int.{to_z-of_z}
 use Rattle.sy_core.specs.declared.table.Verdict.TheVariants as V
 use Rattle.sy_prop.specs.Machine.Tables.{values_from}
