@@ -34,7 +34,7 @@ module _ (step : Step) (unit : TimeUnit) (h k : History) where
   abbrev ToldProp : Type 0
   ToldProp = (p : Prop) × Told p
 
-  same_size : (p : Prop) (n : ℕ) → length (nodes_of_prop unit h p n) ≡ length (nodes_of_prop unit k p n)
+  pub same_size : (p : Prop) (n : ℕ) → length (nodes_of_prop unit h p n) ≡ length (nodes_of_prop unit k p n)
   same_size p n = sym (alike step unit h p n) ∙ alike step unit k p n
 
   told_parts : (join : ℕ → Node) → ((i : ℕ) → on_atom stay (join i) ≡ join i) → (ps : List ToldProp) (n : ℕ) → changed (flat_map and_join (map (changes_of step) (map (λ e. e.0) ps))) (chain_from join (map (nodes_of_prop unit h) (map (λ e. e.0) ps)) n) ≡ chain_from join (map (nodes_of_prop unit k) (map (λ e. e.0) ps)) n

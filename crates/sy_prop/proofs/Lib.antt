@@ -9,3 +9,4 @@ pub mod RootVerdicts
 pub mod Making
 pub mod Adding
 pub mod Places
+pub mod DateTerms

@@ -68,7 +68,7 @@ told_point (News.Seen what) h = refl
 told_point (News.Fired kind target) h = refl
 told_point (News.Set target state) h = refl
 
-module _ (old new : Latches) (deed : Deed) (news : News) (same : new.point ≡ old.point) (roots : new.roots ≡ old.roots) (posts : new.posts ≡ old.posts) (takes : new.nodes.items ≡ changed_from 0 (changes_of_deed (news_step deed.unit old.point news) deed) old.nodes.items) where
+module _ (old new : Latches) (deed : Deed) (news : News) (same : new.point ≡ old.point) (roots : new.roots ≡ old.roots) (posts : new.posts ≡ old.posts) (places : new.places ≡ old.places) (takes : new.nodes.items ≡ changed_from 0 (changes_of_deed (news_step deed.unit old.point news) deed) old.nodes.items) where
   pub told_stands : (h : History) → StandsFor old deed h → StandsFor new deed (telling news h)
   told_stands h stands =
       let props = props_of_deed deed in
@@ -83,6 +83,7 @@ module _ (old new : Latches) (deed : Deed) (news : News) (same : new.point ≡ o
             ∙ props_told_on (news_step deed.unit h.now.point news) deed.unit h (telling news h) (news_leads deed.unit h stands.orderly news) props 0)));
         roots = ap (λ v. v.items) roots ∙ stands.roots;
         posts = ap (λ v. v.items) posts ∙ stands.posts;
+        places = ap (λ v. v.items) places ∙ stands.places;
       }
 
   pub told_made : IsMadeFor old deed → IsMadeFor new deed
@@ -97,7 +98,7 @@ gap : (p q : ℤ) → p <ℤ q → (m : ℕ) × (nat_abs (q -ℤ p) ≡ suc m) �
 gap p q lt = (nat_abs (q -ℤ p) - 1, omega (arith, ints, lt), omega (arith, ints, lt))
 
 -- points go by
-module _ (old new : Latches) (deed : Deed) (q : ℤ) (lt : old.point <ℤ q) (at : new.point ≡ q) (roots : new.roots ≡ old.roots) (posts : new.posts ≡ old.posts) (takes : new.nodes.items ≡ map (on_atom (passed_to old.point (old.point +ℤ pos 1) q)) old.nodes.items) where
+module _ (old new : Latches) (deed : Deed) (q : ℤ) (lt : old.point <ℤ q) (at : new.point ≡ q) (roots : new.roots ≡ old.roots) (posts : new.posts ≡ old.posts) (places : new.places ≡ old.places) (takes : new.nodes.items ≡ map (on_atom (passed_to old.point (old.point +ℤ pos 1) q)) old.nodes.items) where
   pub passed_stands : (h : History) → StandsFor old deed h → StandsFor new deed (passing (nat_abs (q -ℤ old.point)) h)
   passed_stands h stands =
       let g = gap old.point q lt in
@@ -112,6 +113,7 @@ module _ (old new : Latches) (deed : Deed) (q : ℤ) (lt : old.point <ℤ q) (at
             ∙ props_go deed.unit h (passing (suc m) h) (passed_to h.now.point (h.now.point +ℤ pos 1) (h.now.point +ℤ pos (suc m))) (passing_leads deed.unit h m) (props_of_deed deed) 0);
         roots = ap (λ v. v.items) roots ∙ stands.roots;
         posts = ap (λ v. v.items) posts ∙ stands.posts;
+        places = ap (λ v. v.items) places ∙ stands.places;
       })
 
   pub passed_made : IsDated deed.unit q → IsMadeFor old deed → IsMadeFor new deed
@@ -130,7 +132,7 @@ module _ (old new other : Latches) (deed : Deed) (made : IsMadeFor old deed) (ma
       ∙ (sym (props_alike (same_step stay) deed.unit made.told made.told props 0)
       ∙ (props_alike (same_step stay) deed.unit made'.told made'.told props 0 ∙ sym (ap length made'.stands.kept)))
 
-  module _ (at : new.point ≡ old.point) (nodes : new.nodes.items ≡ old.nodes.items) (roots : new.roots ≡ other.roots) (posts : new.posts ≡ other.posts) where
+  module _ (at : new.point ≡ old.point) (nodes : new.nodes.items ≡ old.nodes.items) (roots : new.roots ≡ other.roots) (posts : new.posts ≡ other.posts) (places : new.places ≡ other.places) where
     pub copied_stands : (d : Deed) (h : History) → StandsFor old d h → StandsFor new d h
     copied_stands d h stands = record {
       orderly = stands.orderly;
@@ -138,6 +140,7 @@ module _ (old new other : Latches) (deed : Deed) (made : IsMadeFor old deed) (ma
       kept = nodes ∙ stands.kept;
       roots = ap (λ v. v.items) roots ∙ (made'.stands.roots ∙ (sym made.stands.roots ∙ stands.roots));
       posts = ap (λ v. v.items) posts ∙ (made'.stands.posts ∙ (sym made.stands.posts ∙ stands.posts));
+      places = ap (λ v. v.items) places ∙ (made'.stands.places ∙ (sym made.stands.places ∙ stands.places));
     }
 
     pub copied_made : (d : Deed) → IsMadeFor old d → IsMadeFor new d

@@ -3,3 +3,4 @@ pub mod Changes
 pub mod Tellings
 pub mod Deeds
 pub mod Roots
+pub mod Terms

@@ -8,8 +8,9 @@ use Rattle.sy_core.specs.declared.position.Goal.{Goal}
 use Rattle.sy_core.specs.declared.position.Goal.TheVariants as G
 use Rattle.sy_core.specs.declared.position.Position.{Position}
 use Rattle.sy_core.specs.declared.deed.Deed.{Deed}
-use Rattle.sy_atoms.specs.Histories.{History, IsOrderly}
+use Rattle.sy_atoms.specs.Histories.{History, IsOrderly, first_history}
 use Rattle.sy_prop.specs.Machine.Tables.{nodes_of_props}
+use Rattle.sy_prop.specs.Machine.Terms.{places_from}
 use Rattle.sy_prop.specs.Machine.Roots.{after_positions, roots_from, posts_from}
 use Rattle.sy_prop.specs.declared.roots.Root.{Root}
 use Rattle.sy_prop.specs.declared.roots.Root.TheVariants as R
@@ -55,6 +56,7 @@ pub record StandsFor (latches : Latches) (deed : Deed) (h : History) : Type 0 wh
   pub kept : latches.nodes.items ≡ nodes_of_props deed.unit h (props_of_deed deed) 0
   pub roots : latches.roots.items ≡ roots_from 0 deed.positions
   pub posts : latches.posts.items ≡ posts_from (after_positions 0 deed.positions) deed.posts
+  pub places : latches.places.items ≡ places_from 0 (nodes_of_props deed.unit (first_history deed.start) (props_of_deed deed) 0)
 
 -- the latches were made for the deed: they stand for it and some history, and their present point is a date
 pub record IsMadeFor (latches : Latches) (deed : Deed) : Type 0 where

@@ -1,10 +1,13 @@
-ghost use Rattle.std.specs.Prelude.{◌≡◌, ◌≤ℤ◌, ◌-ℤ◌, nat_abs, Some, IfOk, length};
+ghost use Rattle.std.specs.Prelude.{◌≡◌, ◌≤ℤ◌, ◌-ℤ◌, nat_abs, Some, IfOk, length, slice_get};
 ghost use Rattle.sy_base.specs.Points.{IsDated};
 ghost use Rattle.sy_core.specs.declared.deed.Deed.{Deed};
+ghost use Rattle.sy_core.specs.declared.date_term.DateTerm.{DateTerm};
 ghost use Rattle.sy_core.specs.declared.proposition.Prop.{Prop};
+ghost use Rattle.sy_core.specs.Moments.{date_value};
+ghost use Rattle.sy_core.specs.Wakes.{dates_of_deed};
 ghost use Rattle.sy_core.specs.Propositions.{verdict_at};
 ghost use Rattle.sy_core.specs.Soundness.{HasSoundParts};
-ghost use Rattle.sy_atoms.specs.Histories.{History, first_history, seeing, firing, setting, passing};
+ghost use Rattle.sy_atoms.specs.Histories.{History, first_history, moments, seeing, firing, setting, passing};
 ghost use Rattle.sy_atoms.specs.Machine.Told.{telling};
 ghost use Rattle.sy_prop.specs.declared.roots.Root.{Root};
 ghost use Rattle.sy_prop.specs.Machine.Roots.{root_of};
@@ -16,6 +19,7 @@ use crate::node::Node;
 use crate::roots::{PositionRoots, Root};
 use crate::table::{pass_to, verdict};
 use crate::telling::Telling;
+use crate::terms::{TermPlace, date_by, term_places};
 use std::alloc::Global;
 use sy_atoms::News;
 use sy_base::{Memory, Point};
@@ -30,6 +34,8 @@ pub struct Latches {
     pub(crate) roots: Vec<PositionRoots>,
     /// The nodes of the postconditions.
     pub(crate) posts: Vec<usize>,
+    /// Where the values of the date terms stand.
+    pub(crate) places: Vec<TermPlace>,
 }
 
 /// Writes the nodes over as many others.
@@ -55,11 +61,13 @@ impl Latches {
         let mut posts = Vec::new(alloc);
         add_positions(&mut nodes, &mut roots, deed)?;
         add_posts(&mut nodes, &mut posts, deed)?;
+        let places = term_places(alloc, nodes.as_slice())?;
         Ok(Latches {
             point: deed.start,
             nodes,
             roots,
             posts,
+            places,
         })
     }
 
@@ -172,6 +180,25 @@ impl Latches {
             → result ≡ verdict_at deed.unit h.now h.before prop }
     {
         verdict(self.nodes.as_slice(), self.point, node)
+    }
+
+    /// How many date terms the deed has. They are numbered from 0 in the order of the positions, each
+    /// with trigger, antecedent and consequent, then the postconditions, and within each from left to
+    /// right.
+    pub fn terms(&self) -> usize
+        ensures { (deed : Deed) (h : History) → StandsFor self.now deed h
+            → result ≡ length (dates_of_deed deed) }
+    {
+        self.places.as_slice().len()
+    }
+
+    /// The value at the present point of the date term with this number, if it has one yet.
+    pub fn due(&self, term: usize) -> Option<Point>
+        ensures { (deed : Deed) (h : History) (date : DateTerm) → StandsFor self.now deed h
+            → slice_get (dates_of_deed deed) term ≡ Some date
+            → result ≡ date_value deed.unit date (moments h) }
+    {
+        date_by(self.nodes.as_slice(), self.places.as_slice(), term)
     }
 
     /// Makes other latches that were made for the same deed the same as these. It takes no memory.

@@ -9,6 +9,7 @@ mod node;
 mod roots;
 mod table;
 mod telling;
+mod terms;
 mod walk;
 
 pub use latches::Latches;

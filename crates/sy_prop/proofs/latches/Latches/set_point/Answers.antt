@@ -14,7 +14,7 @@ pub returns-then-self-point-clause-made : goal.returns-then-self-point-clause-ma
 returns-then-self-point-clause-made c =
     let old = c.args.self.now in
     let unit = c.args.deed.now.unit in
-    let new : Latches = record { point = to_z w64 (of_z w64 c.args.point); nodes = with_items old.nodes c.pass_to.new.nodes; roots = old.roots; posts = old.posts } in
+    let new : Latches = record { point = to_z w64 (of_z w64 c.args.point); nodes = with_items old.nodes c.pass_to.new.nodes; roots = old.roots; posts = old.posts; places = old.places } in
     let e = with_items_is old.nodes c.pass_to.new.nodes (c.pass_to.auto.nodes ∙ c.as_mut_slice.ensures.len) in
     let p = dated_is_passed unit old.point c.requires.made.dated in
     let n = next_is_passed unit old.point c.requires.made.dated in
@@ -23,13 +23,13 @@ returns-then-self-point-clause-made c =
     let w = simp (n', p, q) at c.pass_to.ensures in
     let lt : old.point <ℤ c.args.point = record { lt = T_from_true _ (simp (p, q) at c.if-self-point.true) } in
     let takes = e ∙ (w ∙ ap (map (on_atom (passed_to old.point (old.point +ℤ pos 1) c.args.point))) c.as_mut_slice.ensures.value) in
-    passed_made old new c.args.deed.now c.args.point lt q refl refl takes c.requires.dated c.requires.made
+    passed_made old new c.args.deed.now c.args.point lt q refl refl refl takes c.requires.dated c.requires.made
 
 pub returns-then-self-point-clause-stands : goal.returns-then-self-point-clause-stands
 returns-then-self-point-clause-stands c =
     let old = c.args.self.now in
     let unit = c.args.deed.now.unit in
-    let new : Latches = record { point = to_z w64 (of_z w64 c.args.point); nodes = with_items old.nodes c.pass_to.new.nodes; roots = old.roots; posts = old.posts } in
+    let new : Latches = record { point = to_z w64 (of_z w64 c.args.point); nodes = with_items old.nodes c.pass_to.new.nodes; roots = old.roots; posts = old.posts; places = old.places } in
     let e = with_items_is old.nodes c.pass_to.new.nodes (c.pass_to.auto.nodes ∙ c.as_mut_slice.ensures.len) in
     let p = dated_is_passed unit old.point c.requires.made.dated in
     let n = next_is_passed unit old.point c.requires.made.dated in
@@ -38,4 +38,4 @@ returns-then-self-point-clause-stands c =
     let w = simp (n', p, q) at c.pass_to.ensures in
     let lt : old.point <ℤ c.args.point = record { lt = T_from_true _ (simp (p, q) at c.if-self-point.true) } in
     let takes = e ∙ (w ∙ ap (map (on_atom (passed_to old.point (old.point +ℤ pos 1) c.args.point))) c.as_mut_slice.ensures.value) in
-    passed_stands old new c.args.deed.now c.args.point lt q refl refl takes
+    passed_stands old new c.args.deed.now c.args.point lt q refl refl refl takes

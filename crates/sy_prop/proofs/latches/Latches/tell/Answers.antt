@@ -22,20 +22,20 @@ pub returns-clause-made : goal.returns-clause-made
 returns-clause-made c =
     let old = c.args.self.now in
     let deed = c.args.deed.now in
-    let new : Latches = record { point = old.point; nodes = with_items old.nodes c.tell_deed.new.nodes; roots = old.roots; posts = old.posts } in
+    let new : Latches = record { point = old.point; nodes = with_items old.nodes c.tell_deed.new.nodes; roots = old.roots; posts = old.posts; places = old.places } in
     let e = with_items_is old.nodes c.tell_deed.new.nodes (c.tell_deed.auto.nodes ∙ c.as_mut_slice.ensures.len) in
     let p = dated_is_passed deed.unit old.point c.requires.made.dated in
     let w = simp p at c.tell_deed.ensures in
     let takes = e ∙ (w ∙ ap (changed_from 0 (changes_of_deed (news_step deed.unit old.point c.args.news) deed)) c.as_mut_slice.ensures.value) in
-    told_made old new deed c.args.news refl refl refl takes c.requires.made
+    told_made old new deed c.args.news refl refl refl refl takes c.requires.made
 
 pub returns-clause-stands : goal.returns-clause-stands
 returns-clause-stands c =
     let old = c.args.self.now in
     let deed = c.args.deed.now in
-    let new : Latches = record { point = old.point; nodes = with_items old.nodes c.tell_deed.new.nodes; roots = old.roots; posts = old.posts } in
+    let new : Latches = record { point = old.point; nodes = with_items old.nodes c.tell_deed.new.nodes; roots = old.roots; posts = old.posts; places = old.places } in
     let e = with_items_is old.nodes c.tell_deed.new.nodes (c.tell_deed.auto.nodes ∙ c.as_mut_slice.ensures.len) in
     let p = dated_is_passed deed.unit old.point c.requires.made.dated in
     let w = simp p at c.tell_deed.ensures in
     let takes = e ∙ (w ∙ ap (changed_from 0 (changes_of_deed (news_step deed.unit old.point c.args.news) deed)) c.as_mut_slice.ensures.value) in
-    told_stands old new deed c.args.news refl refl refl takes
+    told_stands old new deed c.args.news refl refl refl refl takes
