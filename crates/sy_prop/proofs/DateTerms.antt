@@ -1,5 +1,5 @@
 -- The values at the places of a table's dates are those of the deed's date terms.
-use Rattle.std.proofs.Common.{◌≡◌, ℕ, zero, suc, ◌+◌, ◌-◌, ◌<◌, ℤ, Bool, true, false, List, [], ◌∷◌, ◌++◌, map, drop, get_or, drop-cons, add-one, length, slice_get, Option, Some, None, refl, sym, ◌∙◌, ap, subst, arith, append_assoc, length-append}
+use Rattle.std.proofs.Common.{◌≡◌, ℕ, zero, suc, ◌+◌, ◌-◌, ◌<◌, ℤ, true, false, List, [], ◌∷◌, ◌++◌, map, drop, get_or, drop-cons, add-one, length, slice_get, Option, Some, None, refl, sym, ◌∙◌, ap, subst, arith, append_assoc, length-append}
 use Rattle.std.specs.List.{flat_map}
 use Rattle.sy_base.specs.declared.time.TimeUnit.{TimeUnit}
 use Rattle.sy_core.specs.declared.date_term.DateTerm.{DateTerm}
@@ -26,7 +26,7 @@ use Rattle.sy_prop.specs.declared.node.Node.TheVariants as N
 use Rattle.sy_prop.specs.declared.terms.TermPlace.{TermPlace}
 use Rattle.sy_prop.specs.Machine.Tables.{chain_from, nodes_step, nodes_of_prop, nodes_of_props, on_atom}
 use Rattle.sy_prop.specs.Machine.Changes.{stay}
-use Rattle.sy_prop.specs.Machine.Terms.{dates_of_atom, dates_in, places_by, places_of, places_from, date_in, date_of, date_at, date_by}
+use Rattle.sy_prop.specs.Machine.Terms.{dates_in, places_of, places_from, date_of, date_at, date_by}
 use Rattle.sy_prop.specs.Standing.{duty_props, position_props, props_of_deed}
 use Rattle.sy_prop.proofs.Goes.{same_size}
 

@@ -1,8 +1,6 @@
 -- Where the values of date terms stand in a table.
-use Rattle.std.specs.Prelude.{ℕ, suc, ◌+◌, ℤ, Bool, true, false, List, [], ◌∷◌, ◌++◌, Option, Some, None, slice_get, if◌then◌else◌}
+use Rattle.std.specs.Prelude.{ℕ, ◌+◌, ℤ, Bool, true, false, List, [], ◌∷◌, ◌++◌, Option, Some, None, slice_get, if◌then◌else◌}
 use Rattle.sy_atoms.specs.declared.due.Due.{Due}
-use Rattle.sy_atoms.specs.declared.look.Look.{Look}
-use Rattle.sy_atoms.specs.declared.sight.Sight.{Sight}
 use Rattle.sy_atoms.specs.declared.atom.Atom.{Atom}
 use Rattle.sy_atoms.specs.declared.atom.Atom.TheVariants as A
 use Rattle.sy_prop.specs.declared.node.Node.{Node}

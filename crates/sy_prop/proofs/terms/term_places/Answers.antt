@@ -1,4 +1,4 @@
-use Rattle.std.proofs.Common.{◌≡◌, ◌+◌, arith}
+use Rattle.std.proofs.Common.{arith}
 use Rattle.sy_prop.proofs.DateTerms.{places_go_on}
 use Rattle.sy_prop.proofs.terms.term_places.Goals as goal
 

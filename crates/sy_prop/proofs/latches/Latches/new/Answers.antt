@@ -1,4 +1,4 @@
-use Rattle.std.proofs.Common.{◌≡◌, length, sym, ◌∙◌, ap, subst, w64, to_z, of_z}
+use Rattle.std.proofs.Common.{sym, ◌∙◌, ap, subst}
 use Rattle.std.specs.List.{flat_map}
 use Rattle.sy_base.specs.Points.{IsDated}
 use Rattle.sy_atoms.specs.Histories.{first_history}
