@@ -16,7 +16,8 @@ use Rattle.sy_core.specs.Propositions.{situation_holds, fails_within, verdict_by
 use Rattle.sy_atoms.specs.declared.sight.Sight.{Sight}
 use Rattle.sy_atoms.specs.declared.atom.Atom.{Atom}
 use Rattle.sy_atoms.specs.declared.atom.Atom.TheVariants as A
-use Rattle.sy_atoms.specs.Histories.{History, moments, IsOrderly, noting, setting, going_on}
+use Rattle.sy_quiet.specs.Histories.{History, moments, noting, setting, going_on}
+use Rattle.sy_atoms.specs.Histories.{IsOrderly}
 use Rattle.sy_atoms.specs.Machine.Windows.{always, from_on, before_date, after_date, between, overlaps, learned}
 use Rattle.sy_atoms.specs.Machine.Kept.{sight_of, passed_sight, due_of, learned_due, said_of, look_of, passed_look}
 use Rattle.sy_atoms.specs.Machine.Told.{begins, news_of_date}

@@ -21,7 +21,8 @@ use Rattle.sy_atoms.specs.declared.sight.Sight.{Sight}
 use Rattle.sy_atoms.specs.declared.due.Due.{Due}
 use Rattle.sy_atoms.specs.declared.look.Look.{Look}
 use Rattle.sy_atoms.specs.Machine.Windows.{from_on, before_date, after_date, known, learned}
-use Rattle.sy_atoms.specs.Histories.{History, moments, AllUnder, IsOrderly, with_more, noting, setting, quiet, going_on, passing}
+use Rattle.sy_quiet.specs.Histories.{History, moments, with_more, noting, setting, quiet, going_on, passing}
+use Rattle.sy_atoms.specs.Histories.{AllUnder, IsOrderly}
 use Rattle.sy_atoms.specs.Machine.Told.{begins}
 use Rattle.sy_atoms.specs.Machine.Kept.{sight_of, noted_sight, passed_sight, due_of, learned_due, said_of, look_of, set_look, passed_look}
 

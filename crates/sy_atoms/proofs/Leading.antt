@@ -8,7 +8,8 @@ use Rattle.sy_core.specs.Chronicle.{exerts}
 use Rattle.sy_atoms.specs.declared.atom.Atom.{Atom}
 use Rattle.sy_atoms.specs.declared.news.News.{News}
 use Rattle.sy_atoms.specs.declared.news.News.TheVariants as N
-use Rattle.sy_atoms.specs.Histories.{History, IsOrderly, is_inner, going_on, passing}
+use Rattle.sy_quiet.specs.Histories.{History, is_inner, going_on, passing}
+use Rattle.sy_atoms.specs.Histories.{IsOrderly}
 use Rattle.sy_atoms.specs.Machine.Told.{telling}
 use Rattle.sy_atoms.specs.Machine.Atoms.{happens_of, before_of, after_of, within_of, occurs_of, holds_of, passed_atom, passed_to}
 use Rattle.sy_atoms.specs.Machine.Steps.{news_step, same_step, Leads}

@@ -1,7 +1,8 @@
 ghost use Rattle.std.specs.Prelude.{◌≡◌, ◌&&◌, ◌==◌, IsTrue};
 ghost use Rattle.sy_base.specs.Points.{IsDated};
 ghost use Rattle.sy_core.specs.Soundness.{is_sound_date};
-ghost use Rattle.sy_atoms.specs.Histories.{is_inner, kind_number};
+ghost use Rattle.sy_passes.specs.Passes.{kind_number};
+ghost use Rattle.sy_quiet.specs.Histories.{is_inner};
 ghost use Rattle.sy_atoms.specs.Machine.Told.{hits_of, begins, news_of_date, news_of_situation, update_of_happens, update_of_before, update_of_after, update_of_within, update_of_occurs, update_of_holds};
 
 use crate::look::is_said;

@@ -6,7 +6,7 @@ use Rattle.sy_core.specs.declared.proposition.Prop.{Prop}
 use Rattle.sy_core.specs.declared.position.Goal.{Goal}
 use Rattle.sy_core.specs.declared.position.Goal.TheVariants as G
 use Rattle.sy_core.specs.declared.position.Position.{Position}
-use Rattle.sy_atoms.specs.Histories.{History}
+use Rattle.sy_quiet.specs.Histories.{History}
 use Rattle.sy_atoms.specs.Machine.Steps.{same_step}
 use Rattle.sy_prop.specs.declared.node.Node.{Node}
 use Rattle.sy_prop.specs.declared.roots.PositionRoots.{PositionRoots}

@@ -18,7 +18,7 @@ use Rattle.sy_core.specs.Wakes.{dates_of_position, dates_of_deed}
 use Rattle.sy_atoms.specs.declared.due.Due.{Due}
 use Rattle.sy_atoms.specs.declared.atom.Atom.{Atom}
 use Rattle.sy_atoms.specs.declared.atom.Atom.TheVariants as A
-use Rattle.sy_atoms.specs.Histories.{History, moments}
+use Rattle.sy_quiet.specs.Histories.{History, moments}
 use Rattle.sy_atoms.specs.Machine.Kept.{due_of}
 use Rattle.sy_atoms.specs.Machine.Steps.{same_step}
 use Rattle.sy_prop.specs.declared.node.Node.{Node}

@@ -8,7 +8,7 @@ use Rattle.sy_core.specs.declared.proposition.Prop.TheOpen as P
 use Rattle.sy_core.specs.declared.proposition.Prop.TheViews.{roll-Prop}
 use Rattle.sy_core.specs.declared.proposition.Prop.TheFolds.{fold-roll-Prop, map-Prop, ind-Prop}
 use Rattle.sy_atoms.specs.declared.atom.Atom.{Atom}
-use Rattle.sy_atoms.specs.Histories.{History}
+use Rattle.sy_quiet.specs.Histories.{History}
 use Rattle.sy_atoms.specs.Machine.Steps.{Step, same_step, Leads}
 use Rattle.sy_prop.specs.declared.node.Node.{Node}
 use Rattle.sy_prop.specs.declared.node.Node.TheVariants as N

@@ -6,7 +6,7 @@ use Rattle.sy_core.specs.declared.proposition.Prop.TheVariants as Props
 use Rattle.sy_core.specs.declared.proposition.Prop.TheOpen as P
 use Rattle.sy_core.specs.declared.proposition.Prop.TheVariants.{rolls-All, rolls-Any, rolls-Not}
 use Rattle.sy_core.specs.declared.proposition.Prop.TheFolds.{fold-roll-Prop}
-use Rattle.sy_atoms.specs.Histories.{History}
+use Rattle.sy_quiet.specs.Histories.{History}
 use Rattle.sy_prop.specs.declared.node.Node.{Node}
 use Rattle.sy_prop.specs.declared.node.Node.TheVariants as N
 use Rattle.sy_prop.specs.Machine.Tables.{chain_from, chain, nodes_step, nodes_of_prop}

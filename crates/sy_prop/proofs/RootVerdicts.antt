@@ -6,7 +6,7 @@ use Rattle.sy_core.specs.declared.proposition.Prop.{Prop}
 use Rattle.sy_core.specs.declared.table.Verdict.{Verdict}
 use Rattle.sy_core.specs.declared.table.Verdict.TheVariants as V
 use Rattle.sy_core.specs.Propositions.{verdict_at}
-use Rattle.sy_atoms.specs.Histories.{History}
+use Rattle.sy_quiet.specs.Histories.{History}
 use Rattle.sy_atoms.specs.Machine.Steps.{same_step}
 use Rattle.sy_prop.specs.Machine.Tables.{nodes_of_prop, nodes_of_props, values_from}
 use Rattle.sy_prop.proofs.Values.{ToldBy, prop_told, values_append}

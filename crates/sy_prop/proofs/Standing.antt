@@ -8,7 +8,8 @@ use Rattle.sy_core.specs.declared.position.Goal.TheVariants as G
 use Rattle.sy_core.specs.declared.position.Position.{Position}
 use Rattle.sy_core.specs.declared.deed.Deed.{Deed}
 use Rattle.sy_atoms.specs.declared.news.News.{News}
-use Rattle.sy_atoms.specs.Histories.{History, IsOrderly, passing}
+use Rattle.sy_quiet.specs.Histories.{History, passing}
+use Rattle.sy_atoms.specs.Histories.{IsOrderly}
 use Rattle.sy_atoms.specs.Machine.Told.{telling}
 use Rattle.sy_atoms.specs.Machine.Atoms.{passed_to}
 use Rattle.sy_atoms.specs.Machine.Steps.{Step, news_step, same_step}

@@ -11,7 +11,7 @@ use Rattle.sy_core.specs.declared.table.Verdict.{Verdict}
 use Rattle.sy_core.specs.declared.table.Verdict.TheVariants as V
 use Rattle.sy_core.specs.Propositions.{verdict_by, opposite, lesser, greater, least, greatest, verdict_step, verdict_at}
 use Rattle.sy_atoms.specs.declared.atom.Atom.{Atom}
-use Rattle.sy_atoms.specs.Histories.{History}
+use Rattle.sy_quiet.specs.Histories.{History}
 use Rattle.sy_atoms.specs.Machine.Atoms.{happens_of, before_of, after_of, within_of, occurs_of, holds_of, atom_verdict}
 use Rattle.sy_atoms.proofs.AtomLaws.{happens_tells, before_tells, after_tells, within_tells, occurs_tells}
 use Rattle.sy_prop.specs.declared.node.Node.{Node}

@@ -8,7 +8,8 @@ use Rattle.sy_core.specs.declared.position.Goal.{Goal}
 use Rattle.sy_core.specs.declared.position.Goal.TheVariants as G
 use Rattle.sy_core.specs.declared.position.Position.{Position}
 use Rattle.sy_core.specs.declared.deed.Deed.{Deed}
-use Rattle.sy_atoms.specs.Histories.{History, IsOrderly, first_history}
+use Rattle.sy_quiet.specs.Histories.{History}
+use Rattle.sy_atoms.specs.Histories.{IsOrderly, first_history}
 use Rattle.sy_prop.specs.Machine.Tables.{nodes_of_props}
 use Rattle.sy_prop.specs.Machine.Terms.{places_from}
 use Rattle.sy_prop.specs.Machine.Roots.{after_positions, roots_from, posts_from}

@@ -8,3 +8,6 @@ pub mod WakeLaw
 pub mod NextWake
 pub mod Told
 pub mod PointLaw
+pub mod Members
+pub mod Numbered
+pub mod Exact

@@ -21,7 +21,7 @@ use Rattle.sy_quiet.specs.KnownWakes.{is_told, is_due, is_eventful, NothingComes
 use Rattle.sy_quiet.proofs.Unseen.{date_unseen}
 use Rattle.sy_quiet.proofs.WakeLaw.{wake_is_known, none_inside, quiet_run}
 
-none_of_all : {X : Type 0} (p : X → Bool) (xs : List X) → ((x : X) → p x ≡ false) → list_any p xs ≡ false
+pub none_of_all : {X : Type 0} (p : X → Bool) (xs : List X) → ((x : X) → p x ≡ false) → list_any p xs ≡ false
 none_of_all p [] h = refl
 none_of_all p (x ∷ xs) h = let a = h x in let b = none_of_all p xs h in λ j. a j || b j
 
@@ -34,7 +34,7 @@ module _ (h : History) (unseen : (e : Ev) → h.now.seen e ≡ false) where
   now_unseen zero e = unseen e
   now_unseen (suc k) e = refl
 
-  date_waits : (unit : TimeUnit) (d : DateTerm) (k : ℕ) → date_value unit d (passing k h).before ≡ date_value unit d h.before
+  pub date_waits : (unit : TimeUnit) (d : DateTerm) (k : ℕ) → date_value unit d (passing k h).before ≡ date_value unit d h.before
   date_waits unit d zero = refl
   date_waits unit d (suc k) = date_unseen unit d (passing k h).before (passing k h).now (now_unseen k) ∙ date_waits unit d k
 
@@ -44,7 +44,7 @@ module _ (deed : Deed) (acyclic : IsAcyclic (numbered_needs deed) (length (nodes
   NoneUntil k = (i : ℕ) → i < k → is_wake_after deed narrative (suc n + i) ≡ false
 
   module _ (k : ℕ) (none : NoneUntil k) where
-    due_same : (t : ℕ) → is_due deed narrative (suc n + k) t ≡ is_due deed narrative (suc n) t
+    pub due_same : (t : ℕ) → is_due deed narrative (suc n + k) t ≡ is_due deed narrative (suc n) t
     due_same t = by_list (dates_of_deed deed)
       where
         by_date : (d : DateTerm) → date_value deed.unit d (chronicle deed narrative (suc n + k)) ≡ date_value deed.unit d (chronicle deed narrative (suc n))

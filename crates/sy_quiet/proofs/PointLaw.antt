@@ -29,12 +29,12 @@ map_there f (y ∷ ys) x (inl e) = inl (ap f e)
 map_there f (y ∷ ys) x (inr m) = inr (map_there f ys x m)
 
 -- setting states changes nothing else
-setting_keeps : (states : Target → StateOf) (xs : List Target) (h : History) → setting_all states xs h ≡ record { before = h.before; now = h.now; next = (setting_all states xs h).next }
+pub setting_keeps : (states : Target → StateOf) (xs : List Target) (h : History) → setting_all states xs h ≡ record { before = h.before; now = h.now; next = (setting_all states xs h).next }
 setting_keeps states [] h = refl
 setting_keeps states (x ∷ xs) h = setting_keeps states xs (setting x (states x) h)
 
 -- each target that is set, or had its state before, has its state
-set_next : (states : Target → StateOf) (xs : List Target) (h : History) (x : Target) → (h.next x ≡ states x) ⊎ Among xs x → (setting_all states xs h).next x ≡ states x
+pub set_next : (states : Target → StateOf) (xs : List Target) (h : History) (x : Target) → (h.next x ≡ states x) ⊎ Among xs x → (setting_all states xs h).next x ≡ states x
 set_next states [] h x (inl e) = e
 set_next states [] h x (inr none) = absurd none
 set_next states (y ∷ xs) h x place = set_next states xs (setting y (states y) h) x (at (same_target y x) refl place)
@@ -63,7 +63,7 @@ module _ (deed : Deed) (acyclic : IsAcyclic (numbered_needs deed) (length (nodes
     abbrev set : InternalEvent → Bool
     set = internal_events deed here happenings states past
 
-    moment_is : assuming here happenings states set ≡ moment_at deed narrative n
+    pub moment_is : assuming here happenings states set ≡ moment_at deed narrative n
     moment_is = λ j. moment_by (same j)
       where
         moment_by : ((Target → StateOf) → (InternalEvent → Bool) → Moment) → Moment

@@ -28,11 +28,11 @@ or_assoc true b c = refl
 or_assoc false b c = refl
 
 -- the narrative has no internal events
-inner_unmatched : (kind : Kind) (x : Target) (what : What) → matches (Inner kind x) what ≡ false
+pub inner_unmatched : (kind : Kind) (x : Target) (what : What) → matches (Inner kind x) what ≡ false
 inner_unmatched kind x (W.Event event values) = refl
 inner_unmatched kind x (W.Exert power) = refl
 
-none_matched : (kind : Kind) (x : Target) (happenings : List What) → list_any (λ what. matches (Inner kind x) what) happenings ≡ false
+pub none_matched : (kind : Kind) (x : Target) (happenings : List What) → list_any (λ what. matches (Inner kind x) what) happenings ≡ false
 none_matched kind x [] = refl
 none_matched kind x (what ∷ later) = let a = inner_unmatched kind x what in let b = none_matched kind x later in λ j. a j || b j
 

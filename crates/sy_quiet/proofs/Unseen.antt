@@ -8,7 +8,7 @@ use Rattle.sy_core.specs.declared.date_term.Base.TheVariants.{Fixed, First}
 use Rattle.sy_core.specs.declared.date_term.DateTerm.{DateTerm}
 use Rattle.sy_core.specs.Moments.{Moment, up_to, first_point, base_value, all_added, date_value}
 
-first_unseen : (e : Ev) (ms : List Moment) (x : Moment) → x.seen e ≡ false → first_point e (up_to x ms) ≡ first_point e ms
+pub first_unseen : (e : Ev) (ms : List Moment) (x : Moment) → x.seen e ≡ false → first_point e (up_to x ms) ≡ first_point e ms
 first_unseen e [] x h = ap (λ b. if b then Some x.point else None) h
 first_unseen e (y ∷ ms) x h = ap (λ o. if y.seen e then Some y.point else o) (first_unseen e ms x h)
 

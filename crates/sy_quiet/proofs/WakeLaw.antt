@@ -94,7 +94,7 @@ module _ (deed : Deed) (acyclic : IsAcyclic (numbered_needs deed) (length (nodes
   is_settled n = rounds_settled deed (event_order deed) ordered (here n) (told n) (states n) (past n)
 
   -- a moment without one of the deed's internal events has none at all
-  idle : (n : ℕ) → is_eventful deed narrative n ≡ false → (e : InternalEvent) → internal n e ≡ false
+  pub idle : (n : ℕ) → is_eventful deed narrative n ≡ false → (e : InternalEvent) → internal n e ≡ false
   idle n h e = elim (among_decided (events_of deed) e) [
     | inl at ↦ none_passes (λ (event : InternalEvent). (moment_at deed narrative n).seen (Inner event.0 event.1)) (events_of deed) e h at
     | inr out ↦ sym (is_settled n e) ∙ event_never deed (moment_at deed narrative n) (past n) e.0 e.1 out
@@ -266,7 +266,7 @@ module _ (deed : Deed) (acyclic : IsAcyclic (numbered_needs deed) (length (nodes
     pub same_posts : (i : ℕ) (p : Prop) → slice_get deed.posts i ≡ Some p → verdict_at deed.unit (moment_at deed narrative (suc n)) (past (suc n)) p ≡ verdict_at deed.unit (moment_at deed narrative n) (past n) p
     same_posts = quiet_posts n untold no_dates uneventful
 
-    history_goes_on : history_at deed narrative (suc (suc n)) ≡ going_on (history_at deed narrative (suc n))
+    pub history_goes_on : history_at deed narrative (suc (suc n)) ≡ going_on (history_at deed narrative (suc n))
     history_goes_on = quiet_history n untold no_dates uneventful
 
   -- many such points one after the other
@@ -278,3 +278,9 @@ module _ (deed : Deed) (acyclic : IsAcyclic (numbered_needs deed) (length (nodes
       ap (history_at deed narrative) e
       ∙ (history_goes_on (n + m) (subst (λ k. is_wake_after deed narrative k ≡ false) f (h m (omega arith)))
       ∙ ap going_on (ap (history_at deed narrative) (sym f) ∙ quiet_run n m (λ k lt. h k (omega (arith, lt)))))
+
+  -- and from any point on
+  pub run_at : (n m : ℕ) → ((k : ℕ) → k < m → is_wake_after deed narrative (n + k) ≡ false) → history_at deed narrative (n + m) ≡ passing m (history_at deed narrative n)
+  run_at zero zero h = refl
+  run_at zero (suc m) h = let no = h 0 (omega arith) in cc
+  run_at (suc n) m h = quiet_run n m h

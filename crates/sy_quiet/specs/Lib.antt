@@ -1,3 +1,4 @@
 pub mod Histories
 pub mod Evaluation
 pub mod KnownWakes
+pub mod Exactly

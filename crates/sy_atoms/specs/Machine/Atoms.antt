@@ -12,7 +12,7 @@ use Rattle.sy_atoms.specs.declared.sight.Sight.{Sight}
 use Rattle.sy_atoms.specs.declared.atom.Atom.{Atom}
 use Rattle.sy_atoms.specs.declared.atom.Atom.TheVariants as A
 use Rattle.sy_atoms.specs.declared.update.Update.{Update}
-use Rattle.sy_atoms.specs.Histories.{History, moments}
+use Rattle.sy_quiet.specs.Histories.{History, moments}
 use Rattle.sy_atoms.specs.Machine.Windows.{always, before_date, after_date, between, overlaps}
 use Rattle.sy_atoms.specs.Machine.Kept.{sight_of, noted_sight, passed_sight, due_of, learned_due, look_of, set_look, passed_look}
 

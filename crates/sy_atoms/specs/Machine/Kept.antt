@@ -14,7 +14,7 @@ use Rattle.sy_atoms.specs.declared.sight.Sight.{Sight}
 use Rattle.sy_atoms.specs.declared.due.Due.{Due}
 use Rattle.sy_atoms.specs.declared.look.Look.{Look}
 use Rattle.sy_atoms.specs.Machine.Windows.{known}
-use Rattle.sy_atoms.specs.Histories.{History, moments}
+use Rattle.sy_quiet.specs.Histories.{History, moments}
 
 -- of an event, where some points count
 abbrev pub sight_of : (ℤ → Bool) → Ev → History → Sight

@@ -6,7 +6,7 @@ use Rattle.sy_core.specs.declared.date_term.DateTerm.{DateTerm}
 use Rattle.sy_core.specs.declared.proposition.Situation.{Situation}
 use Rattle.sy_atoms.specs.declared.atom.Atom.{Atom}
 use Rattle.sy_atoms.specs.declared.news.News.{News}
-use Rattle.sy_atoms.specs.Histories.{History}
+use Rattle.sy_quiet.specs.Histories.{History}
 use Rattle.sy_atoms.specs.Machine.Told.{update_of_happens, update_of_before, update_of_after, update_of_within, update_of_occurs, update_of_holds}
 use Rattle.sy_atoms.specs.Machine.Atoms.{happens_of, before_of, after_of, within_of, occurs_of, holds_of, told_atom}
 

@@ -12,7 +12,7 @@ use Rattle.sy_core.specs.Moments.{all_added}
 use Rattle.sy_atoms.specs.declared.news.News.{News}
 use Rattle.sy_atoms.specs.declared.news.News.TheVariants as N
 use Rattle.sy_atoms.specs.declared.update.Update.{Update}
-use Rattle.sy_atoms.specs.Histories.{History, seeing, firing, setting, is_inner}
+use Rattle.sy_quiet.specs.Histories.{History, seeing, firing, setting, is_inner}
 use Rattle.sy_atoms.specs.Machine.Windows.{learned}
 use Rattle.sy_atoms.specs.Machine.Kept.{said_of}
 

@@ -6,7 +6,7 @@ use Rattle.sy_core.specs.declared.position.Goal.{Goal}
 use Rattle.sy_core.specs.declared.position.Goal.TheVariants as G
 use Rattle.sy_core.specs.declared.position.Position.{Position}
 use Rattle.sy_core.specs.declared.deed.Deed.{Deed}
-use Rattle.sy_atoms.specs.Histories.{History}
+use Rattle.sy_quiet.specs.Histories.{History}
 use Rattle.sy_prop.specs.declared.node.Node.{Node}
 use Rattle.sy_prop.specs.Machine.Tables.{nodes_of_prop}
 use Rattle.sy_prop.specs.declared.roots.Root.{Root}

@@ -1,4 +1,4 @@
-use Rattle.std.proofs.Common.{◌≡◌, ℕ, zero, suc, ◌+◌, ◌<◌, false, List, length, refl, arith}
+use Rattle.std.proofs.Common.{◌≡◌, ℕ, zero, suc, false, List, length}
 use Rattle.sy_core.specs.declared.deed.Deed.{Deed}
 use Rattle.sy_core.specs.declared.event.Ev.TheVariants.{Inner}
 use Rattle.sy_core.specs.declared.happening.Happening.{Happening}
@@ -7,8 +7,7 @@ use Rattle.sy_core.specs.Chronicle.{state_at, moment_at}
 use Rattle.sy_core.specs.Orders.{IsAcyclic}
 use Rattle.sy_core.specs.Prerequisites.{nodes, numbered_needs}
 use Rattle.sy_core.specs.Wakes.{is_wake_after}
-use Rattle.sy_quiet.specs.Histories.{passing, history_at}
-use Rattle.sy_quiet.proofs.WakeLaw.{none_inside, same_states, same_posts, quiet_run}
+use Rattle.sy_quiet.proofs.WakeLaw.{none_inside, same_states, same_posts, run_at}
 use Rattle.sy_quiet.proofs.quiet_law.quiet_points_change_nothing.Goals as goal
 
 nothing_at : (deed : Deed) → IsAcyclic (numbered_needs deed) (length (nodes deed)) → (narrative : List Happening) (n : ℕ) → is_wake_after deed narrative n ≡ false → (event : InternalEvent) → (moment_at deed narrative n).seen (Inner event.0 event.1) ≡ false
@@ -18,11 +17,6 @@ nothing_at deed acyclic narrative (suc n) h event = none_inside deed acyclic nar
 states_at : (deed : Deed) → IsAcyclic (numbered_needs deed) (length (nodes deed)) → (narrative : List Happening) (n : ℕ) → is_wake_after deed narrative n ≡ false → state_at deed narrative (suc n) ≡ state_at deed narrative n
 states_at deed acyclic narrative zero h = cc
 states_at deed acyclic narrative (suc n) h = same_states deed acyclic narrative n h
-
-run_at : (deed : Deed) → IsAcyclic (numbered_needs deed) (length (nodes deed)) → (narrative : List Happening) (n m : ℕ) → ((k : ℕ) → k < m → is_wake_after deed narrative (n + k) ≡ false) → history_at deed narrative (n + m) ≡ passing m (history_at deed narrative n)
-run_at deed acyclic narrative zero zero h = refl
-run_at deed acyclic narrative zero (suc m) h = let no = h 0 (omega arith) in cc
-run_at deed acyclic narrative (suc n) m h = quiet_run deed acyclic narrative n m h
 
 pub returns-clause-nothing : goal.returns-clause-nothing
 returns-clause-nothing c = nothing_at
