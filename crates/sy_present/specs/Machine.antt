@@ -1,0 +1,9 @@
+pub mod Told
+pub mod Counts
+pub mod Behind
+pub mod Granted
+pub mod Fresh
+pub mod Happened
+pub mod Begun
+pub mod Asked
+pub mod Settled
