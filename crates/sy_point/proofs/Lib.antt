@@ -1,0 +1,4 @@
+pub mod DatesOn
+pub mod NextWake
+pub mod Skipping
+pub mod WakeCounts
