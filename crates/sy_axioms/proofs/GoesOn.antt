@@ -1,49 +1,29 @@
 -- A plain evaluator goes on by one point.
-use Rattle.std.proofs.Common.{◌≡◌, ℕ, zero, suc, ℤ, pos, ◌+◌, ◌+ℤ◌, Bool, true, ◌&&◌, List, [], ◌∷◌, ◌++◌, map, Option, Some, None, option_map, unwrap_or, slice_get, refl, sym, ◌∙◌, ap, arith, int_eq}
+use Rattle.std.proofs.Common.{◌≡◌, ℕ, zero, suc, ℤ, pos, ◌+◌, ◌+ℤ◌, Bool, List, [], ◌∷◌, ◌++◌, map, Option, Some, None, option_map, unwrap_or, slice_get, refl, sym, ◌∙◌, ap, arith}
 use Rattle.std.proofs.Math.Path.{fun_ext}
 use Rattle.std.proofs.lemmas.Int.{ints}
-use Rattle.std.proofs.lemmas.Bool.Decides.{Decides-int_eq, Decides-and}
 use Rattle.std.proofs.lemmas.List.{map-append}
-use Rattle.std.specs.List.{list_any}
 use Rattle.sy_words.specs.declared.kind.Kind.{Kind}
 use Rattle.sy_core.specs.declared.kind.Target.{Target}
 use Rattle.sy_core.specs.declared.kind.Target.TheVariants as T
 use Rattle.sy_core.specs.declared.state.StateOf.{StateOf}
 use Rattle.sy_core.specs.declared.state.StateOf.TheVariants as S
-use Rattle.sy_core.specs.declared.event.Ev.{Ev}
-use Rattle.sy_core.specs.declared.event.Ev.TheVariants.{Outer, Inner}
 use Rattle.sy_core.specs.declared.position.Position.{Position}
 use Rattle.sy_core.specs.declared.deed.Deed.{Deed}
-use Rattle.sy_core.specs.declared.happening.What.{What}
 use Rattle.sy_core.specs.declared.happening.Happening.{Happening}
-use Rattle.sy_core.specs.Matching.{matches}
 use Rattle.sy_core.specs.Moments.{Moment}
 use Rattle.sy_core.specs.Conditions.{fires, count_events}
 use Rattle.sy_core.specs.Rounds.{rounds}
-use Rattle.sy_core.specs.Chronicle.{assuming, internal_events, at_point, exerts, stands, states_from, states_next, position_after, first_state, chronicle, state_at, moment_at}
+use Rattle.sy_core.specs.Chronicle.{assuming, internal_events, stands, states_next, position_after, first_state, chronicle, state_at, moment_at}
 use Rattle.sy_core.specs.Tables.{states_of}
-use Rattle.sy_core.proofs.Members.{among, contained, any_of_all}
 use Rattle.sy_axioms.specs.declared.moment.Moment.{Moment as KeptMoment}
 use Rattle.sy_axioms.specs.declared.moment.States.{States}
 use Rattle.sy_axioms.specs.declared.plain.Plain.{Plain}
 use Rattle.sy_axioms.specs.Machine.KeptMoments.{moment_of, state_in, next_states, states_past}
-use Rattle.sy_axioms.specs.Standing.{StandsFor, HasExactly}
-use Rattle.sy_axioms.proofs.Members.{bool_same, any_in, some_in, any_of_kept}
-
--- the states after some moments are those after the last of them
-states_from-last : (deed : Deed) (state : Target → StateOf) (ms : List Moment) (m : Moment) → states_from deed state (ms ++ m ∷ []) ≡ states_next deed m
-states_from-last deed state [] m = refl
-states_from-last deed state (n ∷ ms) m = states_from-last deed (states_next deed n) ms m
-
-state_at-suc : (deed : Deed) (narrative : List Happening) (n : ℕ) → state_at deed narrative (suc n) ≡ states_next deed (moment_at deed narrative n)
-state_at-suc deed narrative n = states_from-last deed first_state (chronicle deed narrative n) (moment_at deed narrative n)
-
--- a position that isn't there stays Null
-null_past : (deed : Deed) (narrative : List Happening) (n i : ℕ) → slice_get deed.positions i ≡ None → state_at deed narrative n (T.Position i) ≡ S.Null
-null_past deed narrative zero i none = refl
-null_past deed narrative (suc n) i none =
-    ap (λ s. s (T.Position i)) (state_at-suc deed narrative n)
-    ∙ (ap (position_after (moment_at deed narrative n) i) none ∙ null_past deed narrative n i none)
+use Rattle.sy_quiet.specs.Exactly.{HasExactly}
+use Rattle.sy_quiet.proofs.Exact.{assuming_same}
+use Rattle.sy_quiet.proofs.States.{last_states, null_past}
+use Rattle.sy_axioms.specs.Standing.{StandsFor}
 
 -- states that are kept for each position, as states of targets
 module _ (s : Target → StateOf) where
@@ -76,38 +56,6 @@ next_states_are deed m j (p ∷ ps) h =
     let here : Some p ≡ slice_get deed.positions j = sym (h 0) ∙ ap (slice_get deed.positions) e in
     λ i. position_after m j (here i) ∷ next_states_are deed m (j + 1) ps (λ k. let f : (j + 1) + k ≡ j + suc k = omega arith in ap (slice_get deed.positions) f ∙ h (suc k)) i
 
-module _ (narrative : List Happening) (point : ℤ) (at : List Happening) (exact : HasExactly narrative point at) where
-  any_same : (p : What → Bool) → list_any p (map (λ h. h.what) at) ≡ list_any p (at_point narrative point)
-  any_same p =
-      any_of_all (λ h. h.what) p at
-      ∙ (bool_same _ _ there back
-      ∙ sym (any_of_kept (λ (h : Happening). h.what) (λ h. int_eq h.point point) p narrative))
-    where
-      there : list_any (λ (h : Happening). p h.what) at ≡ true → list_any (λ (h : Happening). int_eq h.point point && p h.what) narrative ≡ true
-      there h =
-          let s = some_in (λ (h : Happening). p h.what) at h in
-          let g = exact.given s.0 (contained at s.0 s.1) in
-          any_in (λ (h : Happening). int_eq h.point point && p h.what) narrative s.0 (among narrative s.0 g.0) ((Decides-and _ _ (Decides-int_eq s.0.point point) (λ q. q, λ q. q)).1 (g.1, s.2))
-
-      back : list_any (λ (h : Happening). int_eq h.point point && p h.what) narrative ≡ true → list_any (λ (h : Happening). p h.what) at ≡ true
-      back h =
-          let s = some_in (λ (h : Happening). int_eq h.point point && p h.what) narrative h in
-          let d = (Decides-and {Q = p s.0.what ≡ true} _ _ (Decides-int_eq s.0.point point) (λ q. q, λ q. q)).0 s.2 in
-          any_in (λ (h : Happening). p h.what) at s.0 (among at s.0 (exact.all s.0 (contained narrative s.0 s.1) d.0)) d.1
-
-  -- the happenings that are given make the same moment as those of the narrative
-  assuming_same : assuming point (map (λ h. h.what) at) ≡ assuming point (at_point narrative point)
-  assuming_same = λ j state set. record {
-    point = point;
-    asked = fun_ext (λ i. any_same (exerts i)) j;
-    seen = fun_ext (seen_same set) j;
-    state = state;
-  }
-    where
-      seen_same : (set : Kind × Target → Bool) (e : Ev) → stands (map (λ h. h.what) at) set e ≡ stands (at_point narrative point) set e
-      seen_same set (Outer event guards) = any_same (matches (Outer event guards))
-      seen_same set (Inner kind target) = refl
-
 -- the moment that a point's happenings give, from the states and the moments before
 abbrev moment_by : Deed → ((Target → StateOf) → (Kind × Target → Bool) → Moment) → (Target → StateOf) → List Moment → Moment
 moment_by deed A state before = A state (rounds (λ set event. fires deed (A state set) before event.0 event.1) (count_events deed.positions))
@@ -124,7 +72,7 @@ stands_on deed narrative n p q kept at on stands exact =
     let A = ap (λ (x : ℤ). assuming x (map (λ h. h.what) at)) stands.at_point ∙ assuming_same narrative (deed.start +ℤ pos n) at exact in
     let state = kept_states (state_at deed narrative n) deed p.states stands.contract stands.positions (null_past deed narrative n) in
     let moment : moment_of kept ≡ moment_at deed narrative n = on.moment ∙ (λ j. moment_by deed (A j) (state j) (stands.kept j)) in
-    let after : states_next deed (moment_of kept) ≡ state_at deed narrative (suc n) = ap (states_next deed) moment ∙ sym (state_at-suc deed narrative n) in
+    let after : states_next deed (moment_of kept) ≡ state_at deed narrative (suc n) = ap (states_next deed) moment ∙ sym (last_states deed first_state (chronicle deed narrative n) (moment_at deed narrative n)) in
     record {
       at_point = rw (on.point, stands.at_point) (omega (arith, ints));
       kept = ap (map moment_of) on.moments ∙ (map-append moment_of p.moments (kept ∷ []) ∙ (λ j. stands.kept j ++ moment j ∷ []));

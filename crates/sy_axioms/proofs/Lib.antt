@@ -2,8 +2,6 @@ pub mod Dates
 pub mod Equal
 pub mod GoesOn
 pub mod LastMoment
-pub mod Members
-pub mod Numbered
 pub mod OneRound
 pub mod Passing
 pub mod Verdicts

@@ -1,6 +1,6 @@
 -- What a plain evaluator stands for.
 use Rattle.std.specs.Prelude.{◌≡◌, ℕ, ℤ, pos, ◌+ℤ◌, List, map}
-use Rattle.std.specs.List.{All, Contains}
+use Rattle.std.specs.List.{All}
 use Rattle.sy_base.specs.Points.{IsDated}
 use Rattle.sy_core.specs.declared.kind.Target.TheVariants as T
 use Rattle.sy_core.specs.declared.deed.Deed.{Deed}
@@ -24,8 +24,3 @@ pub record StandsFor (plain : Plain) (deed : Deed) (narrative : List Happening) 
   pub kept : map moment_of plain.moments ≡ chronicle deed narrative n
   pub contract : plain.states.contract ≡ state_at deed narrative n T.Contract
   pub positions : plain.states.positions ≡ states_of (state_at deed narrative n) 0 deed.positions
-
--- the narrative has these happenings at the point, and no others there
-pub record HasExactly (narrative : List Happening) (point : ℤ) (at : List Happening) : Type 0 where
-  pub given : (h : Happening) → Contains at h → Contains narrative h × (h.point ≡ point)
-  pub all : (h : Happening) → Contains narrative h → h.point ≡ point → Contains at h

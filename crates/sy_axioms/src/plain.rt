@@ -8,7 +8,8 @@ ghost use Rattle.sy_core.specs.Propositions.{verdict_at};
 ghost use Rattle.sy_core.specs.Chronicle.{first_state, chronicle, state_at, moment_at};
 ghost use Rattle.sy_core.specs.Soundness.{HasSoundParts};
 ghost use Rattle.sy_core.specs.Tables.{states_of};
-ghost use Rattle.sy_axioms.specs.Standing.{StandsFor, HasExactly, HasDatedPoints, next_point};
+ghost use Rattle.sy_axioms.specs.Standing.{StandsFor, HasDatedPoints, next_point};
+ghost use Rattle.sy_quiet.specs.Exactly.{HasExactly};
 
 use crate::moment::{Events, Moment, States};
 use crate::present::Present;

@@ -13,8 +13,8 @@ use Rattle.sy_core.specs.declared.happening.Happening.{Happening}
 use Rattle.sy_core.specs.Chronicle.{at_point, exerts, moment_at}
 use Rattle.sy_core.specs.Tables.{is_void}
 use Rattle.sy_core.proofs.Members.{Among, among, contained}
-use Rattle.sy_axioms.specs.Standing.{HasExactly}
-use Rattle.sy_axioms.proofs.Members.{bool_same, any_in, some_in, any_of_kept}
+use Rattle.sy_quiet.specs.Exactly.{HasExactly}
+use Rattle.sy_quiet.proofs.Members.{bool_same, any_in, some_in, any_of_kept}
 use Rattle.sy_story.specs.Narratives.{happenings_at}
 
 kept : (point : ℤ) (xs : List Happening) (h : Happening) → Among (happenings_at point xs) h → Among xs h × (h.point ≡ point)

@@ -1,6 +1,10 @@
 pub mod AtPoint
+pub mod EachState
 pub mod Marking
+pub mod NextPoint
 pub mod Outcomes
 pub mod Points
+pub mod QuietMarks
 pub mod SameHappenings
+pub mod UnderWay
 pub mod Verdicts

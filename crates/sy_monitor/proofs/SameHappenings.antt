@@ -19,7 +19,7 @@ use Rattle.sy_core.specs.Propositions.{verdict_at}
 use Rattle.sy_core.specs.Chronicle.{assuming, at_point, exerts, stands, states_after, chronicle, moment_at}
 use Rattle.sy_core.specs.Tables.{states_of, marks, is_violated, is_void, table_before, table_after, table_as_of}
 use Rattle.sy_core.proofs.Members.{among, contained}
-use Rattle.sy_axioms.proofs.Members.{bool_same, any_in, some_in, any_of_kept}
+use Rattle.sy_quiet.proofs.Members.{bool_same, any_in, some_in, any_of_kept}
 
 -- the moment that a point's happenings give, from the states and the moments before
 abbrev moment_by : Deed → ((Target → StateOf) → (Kind × Target → Bool) → Moment) → (Target → StateOf) → List Moment → Moment

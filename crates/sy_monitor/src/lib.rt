@@ -1,5 +1,4 @@
-//! Follows one contract: it holds what happened, and gives the table as of each date by the plain
-//! evaluator.
+//! Follows one contract: it holds what happened, and gives the table as of each date by a live core.
 #![tactic(auto)]
 
 mod course;

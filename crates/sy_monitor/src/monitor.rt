@@ -1,15 +1,19 @@
-ghost use Rattle.std.specs.Prelude.{◌≡◌, [], IfOk};
+ghost use Rattle.std.specs.Prelude.{◌≡◌, ◌↔◌, ◌+◌, ◌≤◌, [], IfOk, IsTrue, length};
+ghost use Rattle.std.specs.List.{Contains};
 ghost use Rattle.sy_base.specs.Points.{IsDated};
 ghost use Rattle.sy_core.specs.Soundness.{IsSound};
 ghost use Rattle.sy_core.specs.Tables as tables;
 ghost use Rattle.sy_story.specs.Narratives.{Noting};
+ghost use Rattle.sy_point.specs.Counting.{wakes_up_to};
 ghost use Rattle.sy_monitor.specs.Following.{narrative_of};
 
 use crate::table::table_as_of;
 use std::alloc::Global;
 use std::marker::Model;
+use std::sync::ledger::Ledger;
 use sy_base::{Memory, Point};
 use sy_core::{Deed, Happening, Table};
+use sy_outside::Steps;
 use sy_story::{Noted, Story, StoryFault};
 
 /// Follows a contract: it holds what happened, and says what stands as of a date.
@@ -63,12 +67,35 @@ impl Monitor {
         self.story.note(happening)
     }
 
-    /// What stands as of a date of the deed's unit, by all that was noted up to it, also where
-    /// something was noted late. It evaluates each point from start to the date once.
-    pub fn report_at(&self, point: Point) -> Result<Table, Memory>
-        requires { IsDated self.now.deed.unit point }
-        ensures { IfOk result (λ t. t ≡ tables.table_as_of self.now.deed self.now.happened point) }
+    /// Whether the happening was noted.
+    pub fn knows(&self, happening: &Happening) -> bool
+        ensures { IsTrue result ↔ Contains self.now.happened happening.now }
     {
-        table_as_of(self.alloc, &self.deed, &self.story, point)
+        self.story.holds(happening)
+    }
+
+    /// How many happenings were noted, each counted once.
+    pub fn len(&self) -> usize
+        ensures { result ≡ length self.now.happened }
+    {
+        self.story.len()
+    }
+
+    /// Whether none was noted.
+    pub fn is_empty(&self) -> bool
+        ensures { IsTrue result ↔ (self.now.happened ≡ []) }
+    {
+        self.story.is_empty()
+    }
+
+    /// What stands as of a date of the deed's unit, by all that was noted up to it, also where
+    /// something was noted late. It takes a step for each wake point from start to the date, and none
+    /// for the points between them.
+    pub fn report_at<L: Ledger>(&self, point: Point, steps: &mut Steps<L>) -> Result<Table, Memory>
+        requires { IsDated self.now.deed.unit point }
+        ensures table { IfOk result (λ t. t ≡ tables.table_as_of self.now.deed self.now.happened point) }
+        ensures ticks { steps.new ≤ steps.old + wakes_up_to self.now.deed self.now.happened point }
+    {
+        table_as_of(self.alloc, &self.deed, &self.story, point, steps)
     }
 }

@@ -1,19 +1,22 @@
-ghost use Rattle.std.specs.Prelude.{◌≡◌, ◌<◌, ◌^◌, ◌≤ℤ◌, ◌-ℤ◌, ℕ, suc, [], List, IfOk, length, map, nat_abs, replicate};
+ghost use Rattle.std.specs.Prelude.{◌≡◌, ◌+◌, ◌≤◌, ◌<◌, ◌^◌, ◌≤ℤ◌, ◌-ℤ◌, ℕ, suc, List, IfOk, length, map, nat_abs, replicate};
 ghost use Rattle.sy_base.specs.Points.{IsDated};
 ghost use Rattle.sy_core.specs.declared.happening.Happening.{Happening};
 ghost use Rattle.sy_core.specs.declared.state.StateOf.TheVariants as state;
 ghost use Rattle.sy_core.specs.declared.table.Verdict.TheVariants as verdict;
-ghost use Rattle.sy_core.specs.Chronicle.{chronicle, moment_at};
+ghost use Rattle.sy_core.specs.Chronicle.{chronicle, moment_at, state_at};
 ghost use Rattle.sy_core.specs.Propositions.{verdict_at};
-ghost use Rattle.sy_core.specs.Soundness.{HasSoundParts, IsSound};
+ghost use Rattle.sy_core.specs.Soundness.{IsSound};
 ghost use Rattle.sy_core.specs.Tables as tables;
-ghost use Rattle.sy_axioms.specs.Standing.{StandsFor, HasDatedPoints};
+ghost use Rattle.sy_point.specs.Counting.{wakes, wakes_up_to};
+ghost use Rattle.sy_point.specs.Standing.{IsMadeFor, StandsFor};
 
 use crate::course::Course;
 use std::alloc::Global;
-use sy_axioms::Plain;
+use std::sync::ledger::Ledger;
 use sy_base::{List, Memory, Point};
-use sy_core::{Deed, StateOf, Table, Verdict, copy_states};
+use sy_core::{Deed, StateOf, Table, Target, Verdict};
+use sy_outside::Steps;
+use sy_point::Core;
 use sy_story::Story;
 
 /// So many positions, each of which is Null.
@@ -38,33 +41,35 @@ fn all_open(alloc: Global, posts: usize) -> Result<List<Verdict>, Memory>
     Ok(verdicts)
 }
 
-/// The verdict of each postcondition at the last point that was evaluated.
-fn verdicts(alloc: Global, deed: &Deed, plain: &Plain) -> Result<List<Verdict>, Memory>
+/// The state of each position now.
+fn states(alloc: Global, deed: &Deed, core: &Core) -> Result<List<StateOf>, Memory>
     requires few { length deed.now.positions < 2 ^ 32 }
+    requires made { IsMadeFor core.now deed.now }
+    ensures { IfOk result (λ states. (narrative : List Happening) (n : ℕ) → StandsFor core.now deed.now narrative n
+        → states ≡ tables.states_of (state_at deed.now narrative n) 0 deed.now.positions) }
+{
+    let mut states = List::new(alloc);
+    let mut number = 0;
+    for _position in deed.positions.items() {
+        states.push(core.state(Target::Position(number)))?;
+        number += 1;
+    }
+    Ok(states)
+}
+
+/// The verdict of each postcondition at the point before now.
+fn verdicts(alloc: Global, deed: &Deed, core: &Core) -> Result<List<Verdict>, Memory>
     requires posts { length deed.now.posts < 2 ^ 32 }
-    requires sound { HasSoundParts deed.now }
-    requires made { HasDatedPoints plain.now deed.now }
-    ensures { IfOk result (λ verdicts. (narrative : List Happening) (n : ℕ) → StandsFor plain.now deed.now narrative (suc n)
+    ensures { IfOk result (λ verdicts. (narrative : List Happening) (n : ℕ) → StandsFor core.now deed.now narrative (suc n)
         → verdicts ≡ map (verdict_at deed.now.unit (moment_at deed.now narrative n) (chronicle deed.now narrative n)) deed.now.posts) }
 {
     let mut verdicts = List::new(alloc);
     let mut number = 0;
     for _post in deed.posts.items() {
-        verdicts.push(plain.post(deed, number))?;
+        verdicts.push(core.post(number))?;
         number += 1;
     }
     Ok(verdicts)
-}
-
-/// How many points there are from start to the date, without the date.
-fn points_before(deed: &Deed, date: Point) -> u32
-    requires start { IsDated deed.now.unit deed.now.start }
-    requires dated { IsDated deed.now.unit date }
-    requires begun { deed.now.start ≤ℤ date }
-    ensures points { result ≡ nat_abs (date -ℤ deed.now.start) }
-    ensures few { result < 2 ^ 30 }
-{
-    (date - deed.start) as u32
 }
 
 /// The table as of a date before start.
@@ -83,42 +88,51 @@ fn table_before(alloc: Global, deed: &Deed, date: Point) -> Result<Table, Memory
 }
 
 /// The table as of a date from start on.
-fn table_after(alloc: Global, deed: &Deed, story: &Story, date: Point) -> Result<Table, Memory>
-    requires sound { IsSound deed.now }
-    requires dated { IsDated deed.now.unit date }
-    requires begun { deed.now.start ≤ℤ date }
-    ensures { IfOk result (λ table. table ≡ tables.table_after deed.now story.now.happenings (nat_abs (date -ℤ deed.now.start))) }
-{
-    let points = points_before(deed, date) + 1;
-    let Course {
-        plain,
-        violations,
-        voids,
-    } = Course::of(alloc, deed, story, points)?;
-    Ok(Table {
-        at: date,
-        contract: plain.contract(),
-        states: copy_states(alloc, plain.states())?,
-        violations,
-        voids,
-        posts: verdicts(alloc, deed, &plain)?,
-    })
-}
-
-/// What stands as of a date, by what the story holds.
-pub(crate) fn table_as_of(
+fn table_after<L: Ledger>(
     alloc: Global,
     deed: &Deed,
     story: &Story,
     date: Point,
+    steps: &mut Steps<L>,
 ) -> Result<Table, Memory>
     requires sound { IsSound deed.now }
     requires dated { IsDated deed.now.unit date }
-    ensures { IfOk result (λ table. table ≡ tables.table_as_of deed.now story.now.happenings date) }
+    requires begun { deed.now.start ≤ℤ date }
+    ensures table { IfOk result (λ table. table ≡ tables.table_after deed.now story.now.happenings (nat_abs (date -ℤ deed.now.start))) }
+    ensures ticks { steps.new ≤ steps.old + wakes deed.now story.now.happenings (suc (nat_abs (date -ℤ deed.now.start))) }
+{
+    let Course {
+        core,
+        violations,
+        voids,
+    } = Course::of(alloc, deed, story, date, steps)?;
+    Ok(Table {
+        at: date,
+        contract: core.state(Target::Contract),
+        states: states(alloc, deed, &core)?,
+        violations,
+        voids,
+        posts: verdicts(alloc, deed, &core)?,
+    })
+}
+
+/// What stands as of a date, by what the story holds. It takes a step for each wake point up to the
+/// date.
+pub(crate) fn table_as_of<L: Ledger>(
+    alloc: Global,
+    deed: &Deed,
+    story: &Story,
+    date: Point,
+    steps: &mut Steps<L>,
+) -> Result<Table, Memory>
+    requires sound { IsSound deed.now }
+    requires dated { IsDated deed.now.unit date }
+    ensures table { IfOk result (λ table. table ≡ tables.table_as_of deed.now story.now.happenings date) }
+    ensures ticks { steps.new ≤ steps.old + wakes_up_to deed.now story.now.happenings date }
 {
     if date < deed.start {
         table_before(alloc, deed, date)
     } else {
-        table_after(alloc, deed, story, date)
+        table_after(alloc, deed, story, date, steps)
     }
 }

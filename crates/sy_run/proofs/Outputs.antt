@@ -10,7 +10,7 @@ use Rattle.sy_core.specs.Tables.{table_as_of}
 use Rattle.sy_core.specs.contracts.happening.HappeningPartialEq.TheImpl as compared
 use Rattle.sy_core.proofs.Equal.{happening_Decides}
 use Rattle.sy_core.proofs.Members.{Among, among, contained}
-use Rattle.sy_axioms.proofs.Members.{any_in, some_in}
+use Rattle.sy_quiet.proofs.Members.{any_in, some_in}
 use Rattle.sy_log.specs.declared.read.Entry.{Entry}
 use Rattle.sy_log.specs.declared.read.Entry.TheVariants.{Blank, Noted, Report}
 use Rattle.sy_log.proofs.Saying.{each_line_says}

@@ -15,11 +15,12 @@ ghost use Rattle.sy_run.specs.Machine.Stopping.{is_read_stop};
 
 use crate::stop::Stop;
 use std::alloc::Global;
+use std::sync::ledger::Ledger;
 use sy_base::{FaultName, FileKind, Memory, Point, Text};
 use sy_core::Happening;
 use sy_log::{Entry, read_line};
 use sy_monitor::Monitor;
-use sy_outside::{Line, LineFault, LineReader, Source};
+use sy_outside::{Line, LineFault, LineReader, Source, Steps};
 use sy_report::{of_line, report_text};
 use sy_story::StoryFault;
 
@@ -67,17 +68,28 @@ fn note(
 }
 
 /// The report of a date.
-fn report(alloc: Global, monitor: &Monitor, date: Point) -> Result<Text, Memory>
+fn report<L: Ledger>(
+    alloc: Global,
+    monitor: &Monitor,
+    date: Point,
+    steps: &mut Steps<L>,
+) -> Result<Text, Memory>
     requires { IsDated monitor.now.deed.unit date }
     ensures { IfOk result
         (λ t. t ≡ reports.report_text monitor.now.deed (tables.table_as_of monitor.now.deed monitor.now.happened date)) }
 {
-    let table = monitor.report_at(date)?;
+    let table = monitor.report_at(date, steps)?;
     report_text(alloc, monitor.deed(), &table)
 }
 
 /// What is answered to the line with a number that says this.
-fn reply_to(alloc: Global, monitor: &mut Monitor, number: u64, entry: Entry) -> Result<Text, Stop>
+fn reply_to<L: Ledger>(
+    alloc: Global,
+    monitor: &mut Monitor,
+    number: u64,
+    entry: Entry,
+    steps: &mut Steps<L>,
+) -> Result<Text, Stop>
     requires { IsEntryOf monitor.old.deed entry }
     ensures told { (deed : Deed) (noted : List Told) → Follows monitor.old deed noted
         → Replies monitor.new deed (IsReply deed noted number (Ok entry)) result }
@@ -86,12 +98,17 @@ fn reply_to(alloc: Global, monitor: &mut Monitor, number: u64, entry: Entry) -> 
     match entry {
         Entry::Blank => Ok(nothing(alloc)),
         Entry::Noted(happening) => note(alloc, monitor, number, happening),
-        Entry::Report(date) => Ok(report(alloc, monitor, date)?),
+        Entry::Report(date) => Ok(report(alloc, monitor, date, steps)?),
     }
 }
 
 /// What is answered to a line that is short enough.
-fn reply_line(alloc: Global, monitor: &mut Monitor, line: &Line) -> Result<Text, Stop>
+fn reply_line<L: Ledger>(
+    alloc: Global,
+    monitor: &mut Monitor,
+    line: &Line,
+    steps: &mut Steps<L>,
+) -> Result<Text, Stop>
     requires short { length line.now.bytes ≤ 4096 }
     requires counted { line.now.number ≤ 2 ^ 32 }
     ensures told { (deed : Deed) (noted : List Told) → Follows monitor.old deed noted
@@ -99,7 +116,7 @@ fn reply_line(alloc: Global, monitor: &mut Monitor, line: &Line) -> Result<Text,
     ensures no_read { IfErr result (λ stop. is_read_stop stop ≡ false) }
 {
     match read_line(alloc, monitor.deed(), line.number, line.bytes.bytes()) {
-        Ok(entry) => reply_to(alloc, monitor, line.number, entry),
+        Ok(entry) => reply_to(alloc, monitor, line.number, entry, steps),
         Err(why) => Err(Stop::from(why)),
     }
 }
@@ -118,11 +135,12 @@ fn stop_at(alloc: Global, lines: u64, fault: LineFault) -> Stop
 }
 
 /// What is answered to the next line of the input, or none at its end.
-pub(crate) fn reply_next<S: Source>(
+pub(crate) fn reply_next<S: Source, L: Ledger>(
     alloc: Global,
     log: &mut Log,
     reader: &mut LineReader,
     input: &mut S,
+    steps: &mut Steps<L>,
 ) -> Result<Option<Text>, Stop>
     requires live { IsTrue reader.old.live }
     requires counted { log.old.lines ≡ reader.old.given }
@@ -139,7 +157,7 @@ pub(crate) fn reply_next<S: Source>(
         Err(fault) => return Err(stop_at(alloc, log.lines, fault)),
     };
     log.lines = line.number;
-    match reply_line(alloc, &mut log.monitor, &line) {
+    match reply_line(alloc, &mut log.monitor, &line, steps) {
         Ok(text) => Ok(Some(text)),
         Err(stop) => Err(stop),
     }

@@ -10,13 +10,20 @@ use crate::status::Status;
 use crate::stop::end;
 use crate::stream::stream;
 use std::alloc::Global;
+use std::sync::ledger::Ledger;
 use sy_base::Text;
 use sy_core::Deed;
 use sy_monitor::Monitor;
-use sy_outside::{Files, LineReader, Sink, Source};
+use sy_outside::{Files, LineReader, Sink, Source, Steps};
 
 /// Follows a deed along the log on the input.
-fn follow<S: Source, W: Sink>(alloc: Global, deed: Deed, input: &mut S, out: &mut W) -> Status
+fn follow<S: Source, W: Sink, L: Ledger>(
+    alloc: Global,
+    deed: Deed,
+    input: &mut S,
+    out: &mut W,
+    steps: &mut Steps<L>,
+) -> Status
     requires { IsSound deed }
     ensures told { (bytes : List ℕ) → S.left input.old ≡ Some bytes
         → StreamEnds deed bytes (S.left input.new) (W.held out.old) (W.held out.new) result }
@@ -30,18 +37,19 @@ fn follow<S: Source, W: Sink>(alloc: Global, deed: Deed, input: &mut S, out: &mu
         return Status::Memory;
     };
     let mut log = Log { monitor, lines: 0 };
-    stream(alloc, &mut log, &mut reader, input, out)
+    stream(alloc, &mut log, &mut reader, input, out, steps)
 }
 
 /// The command `monitor SPEC BIND`: follows the contract of a specification and its binding along
 /// the log on the input, and writes each report that a line of it asks for.
-pub(crate) fn monitor<F: Files, S: Source, W: Sink>(
+pub(crate) fn monitor<F: Files, S: Source, W: Sink, L: Ledger>(
     alloc: Global,
     spec: &Text,
     bind: &Text,
     files: &mut F,
     input: &mut S,
     out: &mut W,
+    steps: &mut Steps<L>,
 ) -> Status
     requires spec { IsTrue (F.lent files.old spec.now) }
     requires bind { IsTrue (F.lent files.old bind.now) }
@@ -50,7 +58,7 @@ pub(crate) fn monitor<F: Files, S: Source, W: Sink>(
         (record { file = F.told files.new; left = S.left input.new; held = W.held out.new; file_faults = F.faults files.new; input_faults = S.faults input.new; output_faults = W.faults out.new }) result }
 {
     match read_deed(alloc, files, spec, bind) {
-        Ok(deed) => follow(alloc, deed, input, out),
+        Ok(deed) => follow(alloc, deed, input, out, steps),
         Err(why) => end(alloc, &why, out),
     }
 }

@@ -9,8 +9,9 @@ use crate::log::{Log, reply_next};
 use crate::status::Status;
 use crate::stop::end;
 use std::alloc::Global;
+use std::sync::ledger::Ledger;
 use sy_base::Text;
-use sy_outside::{LineReader, Sink, Source, write_all};
+use sy_outside::{LineReader, Sink, Source, Steps, write_all};
 
 /// Writes what is answered to a line. It answers a status where the stream ends.
 fn write_reply<W: Sink>(text: &Text, out: &mut W) -> Option<Status>
@@ -24,12 +25,13 @@ fn write_reply<W: Sink>(text: &Text, out: &mut W) -> Option<Status>
 }
 
 /// Answers the next line. It answers a status where the stream ends.
-fn one_line<S: Source, W: Sink>(
+fn one_line<S: Source, W: Sink, L: Ledger>(
     alloc: Global,
     log: &mut Log,
     reader: &mut LineReader,
     input: &mut S,
     out: &mut W,
+    steps: &mut Steps<L>,
 ) -> Option<Status>
     requires ready { IsReady reader.old log.old.lines }
     ensures told { (deed : Deed) (bytes : List ℕ) (first : Option (List ℕ))
@@ -40,7 +42,7 @@ fn one_line<S: Source, W: Sink>(
     ensures ascends { IfNone result (log.new.lines ≡ log.old.lines + 1) }
     ensures status { IfSome result IsReadingStatus }
 {
-    match reply_next(alloc, log, reader, input) {
+    match reply_next(alloc, log, reader, input, steps) {
         Ok(Some(text)) => write_reply(&text, out),
         Ok(None) => Some(Status::Done),
         Err(why) => Some(end(alloc, &why, out)),
@@ -48,12 +50,13 @@ fn one_line<S: Source, W: Sink>(
 }
 
 /// Answers each line of the input, up to its end or to the first refusal.
-pub(crate) fn stream<S: Source, W: Sink>(
+pub(crate) fn stream<S: Source, W: Sink, L: Ledger>(
     alloc: Global,
     log: &mut Log,
     reader: &mut LineReader,
     input: &mut S,
     out: &mut W,
+    steps: &mut Steps<L>,
 ) -> Status
     requires new { reader.old ≡ new_line_reader }
     requires none { log.old.monitor.happened ≡ [] }
@@ -64,7 +67,7 @@ pub(crate) fn stream<S: Source, W: Sink>(
     ensures status { IsReadingStatus result }
 {
     'lines: loop {
-        if let Some(status) = one_line(alloc, log, reader, input, out) {
+        if let Some(status) = one_line(alloc, log, reader, input, out, steps) {
             return status;
         }
     }

@@ -30,8 +30,7 @@ fn usage<W: Sink>(out: &mut W) -> Status
 /// two commands so far, `compile SPEC` and `monitor SPEC BIND`; with any other words it writes how
 /// it is used.
 ///
-/// `steps` counts evaluated points for the commands whose work is bounded by a clause; there is
-/// none yet.
+/// `steps` counts the points that are evaluated.
 pub fn run<F: Files, S: Source, W: Sink, L: Ledger>(
     alloc: Global,
     words: &[Text],
@@ -50,7 +49,7 @@ pub fn run<F: Files, S: Source, W: Sink, L: Ledger>(
     match words {
         [form, spec] if form.bytes() == b"compile".as_slice() => compile(alloc, spec, files, out),
         [form, spec, bind] if form.bytes() == b"monitor".as_slice() => {
-            monitor(alloc, spec, bind, files, input, out)
+            monitor(alloc, spec, bind, files, input, out, steps)
         }
         _ => usage(out),
     }

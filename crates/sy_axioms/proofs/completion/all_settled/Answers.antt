@@ -2,7 +2,7 @@ use Rattle.std.proofs.Common.{refl}
 use Rattle.sy_core.specs.declared.kind.Target.TheVariants as T
 use Rattle.sy_core.specs.Conditions.{is_awaited, is_settled, next_state, is_remedied}
 use Rattle.sy_axioms.specs.Machine.Presents.{moment_now}
-use Rattle.sy_axioms.proofs.Numbered.{all-numbered}
+use Rattle.sy_quiet.proofs.Numbered.{all-numbered}
 use Rattle.sy_axioms.proofs.completion.all_settled.Goals as goal
 
 pub loop-position-init : goal.loop-position-init

@@ -3,7 +3,7 @@ use Rattle.sy_core.specs.declared.state.StateOf.TheVariants.{Fulfillment}
 use Rattle.sy_core.specs.States.{same_state}
 use Rattle.sy_core.specs.Conditions.{is_remedy, next_state}
 use Rattle.sy_axioms.specs.Machine.Presents.{moment_now}
-use Rattle.sy_axioms.proofs.Numbered.{any-numbered}
+use Rattle.sy_quiet.proofs.Numbered.{any-numbered}
 use Rattle.sy_axioms.proofs.completion.is_remedied.Goals as goal
 
 pub loop-position-init : goal.loop-position-init

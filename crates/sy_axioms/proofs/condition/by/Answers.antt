@@ -3,7 +3,7 @@ use Rattle.sy_words.specs.declared.kind.Kind.TheVariants.{Exerted}
 use Rattle.sy_core.specs.declared.kind.Target.TheVariants as T
 use Rattle.sy_core.specs.Conditions.{is_act, happened}
 use Rattle.sy_axioms.specs.Machine.Presents.{moment_now}
-use Rattle.sy_axioms.proofs.Numbered.{any-numbered}
+use Rattle.sy_quiet.proofs.Numbered.{any-numbered}
 use Rattle.sy_axioms.proofs.condition.by.Goals as goal
 
 pub loop-position-init : goal.loop-position-init

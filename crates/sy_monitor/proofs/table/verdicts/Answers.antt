@@ -17,6 +17,6 @@ loop-post-preserved c = record {
       let there : slice_get deed.posts c.loop-post.number ≡ Some prop =
       ap (slice_get deed.posts) c.loop-post.invariant.number ∙ ap (λ xs. slice_get xs i) (sym same) ∙ slice_get-get_or posts i c._post-item.result c.loop-post-test.true in
       one_more (verdict_at deed.unit (moment_at deed narrative n) (chronicle deed narrative n)) posts i c._post-item.result c.post.result
-      c.loop-post.verdicts c.push.new.self _ c.loop-post-test.true (c.post.ensures.last narrative n prop stands there) c.in_ok-push.ensures.ok
+      c.loop-post.verdicts c.push.new.self _ c.loop-post-test.true (c.post.ensures deed narrative n prop stands there) c.in_ok-push.ensures.ok
       (c.loop-post.invariant.told narrative n stands);
 }

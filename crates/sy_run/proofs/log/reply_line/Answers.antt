@@ -15,14 +15,14 @@ as_read old deed number bytes line result (same, text, answer) =
     subst (λ (b : List ℕ). IsAnswer deed number b result) text (subst (λ (d : Deed). IsAnswer d number bytes result) same answer)
 
 pub returns-in-Ok-clause-told : goal.returns-in-Ok-clause-told
-returns-in-Ok-clause-told c = λ deed noted follows.
+returns-in-Ok-clause-told g c = λ deed noted follows.
     let line = c.args.line.now in
     answered_by c.reply_to.new.monitor deed noted line.number line.bytes c.requires.counted c.requires.short (Ok c.in-Ok.entry)
     (as_read c.deed.result.now deed line.number c.bytes.result.now line.bytes (Ok c.in-Ok.entry) (c.deed.ensures.deed ∙ follows.keeps, c.bytes.ensures, c.in-Ok.ensures.answer))
     c.reply_to.result (c.reply_to.ensures.told deed noted follows)
 
 pub returns-in-Err-clause-told : goal.returns-in-Err-clause-told
-returns-in-Err-clause-told c = λ deed noted follows.
+returns-in-Err-clause-told g c = λ deed noted follows.
     let line = c.args.line.now in
     rw c.from.ensures
     (refused_by c.args.monitor.now deed noted line.number line.bytes c.requires.counted c.requires.short c.in-Err.why

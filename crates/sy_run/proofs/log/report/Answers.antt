@@ -9,17 +9,17 @@ use Rattle.sy_run.proofs.Printable.{as_of_is_printable}
 use Rattle.sy_run.proofs.log.report.Goals as goal
 
 pub report_text-requires : goal.report_text-requires
-report_text-requires c =
+report_text-requires g c =
     let followed = c.args.monitor.now in
     let same : to_z w64 (of_z w64 c.args.date) ≡ c.args.date = to_z-of_z w64 c.args.date c.ranges.date in
-    let table : c.in_ok-table.table ≡ table_as_of followed.deed followed.happened c.args.date = c.in_ok-table.ensures ∙ ap (table_as_of followed.deed followed.happened) same in
+    let table : c.in_ok-table.table ≡ table_as_of followed.deed followed.happened c.args.date = c.in_ok-table.ensures.table ∙ ap (table_as_of followed.deed followed.happened) same in
     let printable = as_of_is_printable followed.deed followed.happened c.args.date c.deed.ensures.sound.parts.start_dated c.requires in
     subst (λ (d : Deed). IsPrintable d c.in_ok-table.table) (sym c.deed.ensures.deed) (subst (IsPrintable followed.deed) (sym table) printable)
 
 pub returns : goal.returns
-returns c =
+returns g c =
     let followed = c.args.monitor.now in
     let same : to_z w64 (of_z w64 c.args.date) ≡ c.args.date = to_z-of_z w64 c.args.date c.ranges.date in
-    let table : c.in_ok-table.table ≡ table_as_of followed.deed followed.happened c.args.date = c.in_ok-table.ensures ∙ ap (table_as_of followed.deed followed.happened) same in
+    let table : c.in_ok-table.table ≡ table_as_of followed.deed followed.happened c.args.date = c.in_ok-table.ensures.table ∙ ap (table_as_of followed.deed followed.happened) same in
     subst (λ (t : Table). IfOk c.report_text.result (λ r. r ≡ reports.report_text followed.deed t)) table
     (subst (λ (d : Deed). IfOk c.report_text.result (λ r. r ≡ reports.report_text d c.in_ok-table.table)) c.deed.ensures.deed c.report_text.ensures)
